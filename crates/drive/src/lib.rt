@@ -1,0 +1,10 @@
+// Positions, drives and the steps that are due to a drive.
+pub mod direction;
+pub mod fault;
+pub mod phase;
+pub mod position;
+pub mod pulse;
+#[cfg(test)]
+mod tests;
+pub mod token;
+pub mod traits;
