@@ -70,8 +70,7 @@ pub impl Drive for PhaseDrive as PhaseIsDrive {
         ensures refused { λ r. ⌜ (isOk r ≡ false → now (self .exit) ≡ now (self .entry)) ⌝ }
         ensures phase { λ _. ⌜ phaseOf (now (self .exit)) ≡ phaseAfter (now (self .entry)) n ⌝ }
     {
-        let to = landing(self.place, self.tripped, Self::G, n)?;
-        self.place = to;
+        self.place = landing(self.place, self.tripped, Self::G, n)?;
         self.phase = turn(self.phase, n);
         Ok(())
     }
@@ -81,8 +80,7 @@ pub impl Drive for PhaseDrive as PhaseIsDrive {
         ensures refused { λ r. ⌜ (isOk r ≡ false → now (self .exit) ≡ now (self .entry)) ⌝ }
         ensures phase { λ _. ⌜ phaseOf (now (self .exit)) ≡ phaseOf (now (self .entry)) ⌝ }
     {
-        let to = setting(p)?;
-        self.place = to;
+        self.place = setting(p)?;
         Ok(())
     }
 

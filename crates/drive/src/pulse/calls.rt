@@ -50,8 +50,7 @@ pub impl Drive for PulseDrive as PulseIsDrive {
         ensures refused { λ r. ⌜ (isOk r ≡ false → now (self .exit) ≡ now (self .entry)) ⌝ }
         ensures line { λ _. ⌜ lineOf (now (self .exit)) ≡ lineAfter (now (self .entry)) n ⌝ }
     {
-        let to = landing(self.place, self.tripped, Self::G, n)?;
-        self.place = to;
+        self.place = landing(self.place, self.tripped, Self::G, n)?;
         self.line = self.line.after(n);
         Ok(())
     }
@@ -61,8 +60,7 @@ pub impl Drive for PulseDrive as PulseIsDrive {
         ensures refused { λ r. ⌜ (isOk r ≡ false → now (self .exit) ≡ now (self .entry)) ⌝ }
         ensures line { λ _. ⌜ lineOf (now (self .exit)) ≡ lineOf (now (self .entry)) ⌝ }
     {
-        let to = setting(p)?;
-        self.place = to;
+        self.place = setting(p)?;
         Ok(())
     }
 

@@ -1,0 +1,4 @@
+// Plans, and the profiles that turn a plan into advances, one a tick.
+pub mod fault;
+pub mod plan;
+pub mod row;
