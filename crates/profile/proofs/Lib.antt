@@ -1,2 +1,5 @@
 pub mod Copies
+pub mod CreepLaws
+pub mod PlanLaws
 pub mod RowLaws
+pub mod UpDivs

@@ -1,2 +1,5 @@
+pub mod Creeping
+pub mod Creeps
 pub mod Plans
+pub mod Profiles
 pub mod Rows

@@ -2,7 +2,7 @@
 use mathlib.Core.Path.{_≡_}
 use mathlib.Core.Bool.{Bool, true, cond, _||_, not}
 use mathlib.Core.List.{List}
-use Prim.Native.Nat.{ℕ, _≤_}
+use Prim.Native.Nat.{ℕ, _*_, _≤_}
 use lib.Dec.{ltb}
 use lib.ListN.{length, take}
 use Rattle.std.specs.Results.{Cases}
@@ -58,3 +58,13 @@ pub record Made (m : PlanMeans) (r : Result Plan PlanFault) : Type 0 where
   pub answer : Cases r (λ p. (planFault m ≡ None) × (planMeans p ≡ m)) (λ e. planFault m ≡ Some e)
   pub lawful : planFault m ≡ None → Lawful m
   pub taken : Lawful m → planFault m ≡ None
+
+-- the plan of a profile, if it has one yet
+abbrev pub planOf : Option Plan → Option PlanMeans
+planOf None = None
+planOf (Some p) = Some (planMeans p)
+
+-- all its millisteps
+abbrev pub wayOf : Option Plan → ℕ
+wayOf None = 0
+wayOf (Some p) = 1000 * planSteps (planMeans p)
