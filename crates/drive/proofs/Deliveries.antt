@@ -2,23 +2,18 @@
 use mathlib.Core.Path.{_≡_, refl, sym, ap, _∙_}
 use mathlib.Core.Bool.{Bool, true, false, cond}
 use mathlib.Core.Logic.{⊎-elim}
-use Prim.Native.Nat.{ℕ, zero, suc, _≤_, _<_, min}
+use Prim.Native.Nat.{ℕ, _≤_, _<_, min}
 use native.Mathlib.Omega.{arith}
 use lib.IntN.{ℤ, pos, natAbs}
 use Rattle.std.proofs.shelf.Tests.{cases-lt, lt-ltb}
 use Rattle.std.specs.declared.result.Result.{Result}
 use Rattle.std.specs.declared.result.Result.the-variants.{Ok, Err}
+use Rattle.drive.proofs.Landings.{natAbs-signed}
 use Rattle.drive.specs.Directions.{signed}
 use Rattle.drive.specs.Drives.{DriveMeans, Moved, landing, landed, answering}
 use Rattle.drive.specs.declared.direction.Direction.{Direction}
-use Rattle.drive.specs.declared.direction.Direction.the-variants.{Cw, Ccw}
 use Rattle.drive.specs.declared.fault.DriveFault.{DriveFault}
 use Rattle.drive.specs.declared.fault.DriveFault.the-variants.{Tripped, TooFar}
-
-pub natAbs-signed : (d : Direction) (s : ℕ) → natAbs (signed d s) ≡ s
-natAbs-signed Cw s = refl
-natAbs-signed Ccw zero = refl
-natAbs-signed Ccw (suc s) = refl
 
 -- only no steps have no sign
 pub signed-none : (d : Direction) (s : ℕ) → signed d s ≡ pos 0 → s ≡ 0

@@ -2,4 +2,5 @@ pub mod Creeping
 pub mod Creeps
 pub mod Plans
 pub mod Profiles
+pub mod Ranges
 pub mod Rows

@@ -1,6 +1,6 @@
 -- A plan: a starting speed, an acceleration, a deceleration and rows of steps and speed.
 use mathlib.Core.Path.{_≡_}
-use mathlib.Core.Bool.{Bool, true, cond, _||_, not}
+use mathlib.Core.Bool.{true, cond, not}
 use mathlib.Core.List.{List}
 use Prim.Native.Nat.{ℕ, _*_, _≤_}
 use lib.Dec.{ltb}
@@ -9,6 +9,7 @@ use Rattle.std.specs.Results.{Cases}
 use Rattle.std.specs.declared.option.Option.{Option}
 use Rattle.std.specs.declared.option.Option.the-variants.{Some, None}
 use Rattle.std.specs.declared.result.Result.{Result}
+use Rattle.profile.specs.Ranges.{outside}
 use Rattle.profile.specs.Rows.{areRows, stepsOf, topOf}
 use Rattle.profile.specs.declared.fault.PlanFault.{PlanFault}
 use Rattle.profile.specs.declared.fault.PlanFault.the-variants as fault
@@ -38,9 +39,6 @@ pub record Lawful (m : PlanMeans) : Type 0 where
   pub few : (1 ≤ length (m .rows)) × (length (m .rows) ≤ 16)
   pub each : areRows (m .start) (m .rows) ≡ true
   pub near : planSteps m ≤ 16777214
-
-abbrev outside : ℕ → ℕ → ℕ → Bool
-outside low high n = ltb n low || ltb high n
 
 -- the first reason why numbers make no plan
 abbrev pub planFault : PlanMeans → Option PlanFault

@@ -3,4 +3,6 @@ pub mod creep;
 pub mod fault;
 pub mod plan;
 pub mod row;
+#[cfg(test)]
+mod tests;
 pub mod traits;

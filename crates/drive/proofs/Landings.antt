@@ -1,0 +1,42 @@
+-- Where steps in one direction lead.
+use mathlib.Core.Path.{_≡_, refl, ap, _∙_}
+use mathlib.Core.Bool.{true, false}
+use Prim.Native.Nat.{ℕ, zero, suc, _-_, _≤_}
+use native.Mathlib.Omega.{arith}
+use lib.IntN.{ℤ, pos, natAbs, _+ℤ_}
+use Rattle.std.proofs.shelf.Signed.{ints}
+use Rattle.std.proofs.shelf.Tests.{leb-true, le-leb, le-ltb}
+use Rattle.std.specs.declared.result.Result.the-variants.{Ok}
+use Rattle.drive.specs.Directions.{signed}
+use Rattle.drive.specs.Drives.{DriveMeans, landing}
+use Rattle.drive.specs.Positions.{isPosition}
+use Rattle.drive.specs.declared.direction.Direction.{Direction}
+use Rattle.drive.specs.declared.direction.Direction.the-variants.{Cw, Ccw}
+
+pub natAbs-signed : (way : Direction) (n : ℕ) → natAbs (signed way n) ≡ n
+natAbs-signed Cw n = refl
+natAbs-signed Ccw zero = refl
+natAbs-signed Ccw (suc n) = refl
+
+pub signed-zero : (way : Direction) → signed way 0 ≡ pos 0
+signed-zero Cw = refl
+signed-zero Ccw = refl
+
+-- no steps lead nowhere
+pub signed-stays : (way : Direction) (from : ℤ) → from +ℤ signed way 0 ≡ from
+signed-stays Cw from = omega (arith, ints)
+signed-stays Ccw from = omega (arith, ints)
+
+-- steps add up
+pub signed-joins : (way : Direction) (from : ℤ) (a b : ℕ) → a ≤ b → (from +ℤ signed way a) +ℤ signed way (b - a) ≡ from +ℤ signed way b
+signed-joins Cw from a b h = omega (arith, ints)
+signed-joins Ccw from a b h = omega (arith, ints)
+
+-- a place between two positions is one
+pub between : (way : Direction) (from : ℤ) (n k : ℕ) → isPosition from ≡ true → isPosition (from +ℤ signed way n) ≡ true → k ≤ n → isPosition (from +ℤ signed way k) ≡ true
+between Cw from n k a b h = le-leb _ _ (omega (arith, ints, leb-true _ _ a, leb-true _ _ b))
+between Ccw from n k a b h = le-leb _ _ (omega (arith, ints, leb-true _ _ a, leb-true _ _ b))
+
+-- an advance that meets no reason to refuse it lands
+pub lands : (g : ℕ) (m : DriveMeans) (n : ℤ) → m .tripped ≡ false → natAbs n ≤ g → isPosition (m .place +ℤ n) ≡ true → landing g m n ≡ Ok (m .place +ℤ n)
+lands g m n u h q = rw (u, le-ltb g (natAbs n) h, q)
