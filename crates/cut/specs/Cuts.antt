@@ -27,9 +27,13 @@ judged g d c =
     (cond (d .tripped) (Some fault.Tripped)
     (cond (eqb (distance (d .place) (c .target)) 0) (Some fault.NoStep) None))))))
 
--- the plan of a cut: one row, of the steps between the drive's place and the target
+-- the plan of a cut that goes so many steps: one row
+abbrev pub oneRow : Cut → ℕ → PlanMeans
+oneRow c n = record { start = c .start; accel = c .accel; decel = c .decel; rows = record { steps = n; speed = c .speed } ∷ [] }
+
+-- the plan of a cut from where the drive stands
 abbrev pub planned : DriveMeans → Cut → PlanMeans
-planned d c = record { start = c .start; accel = c .accel; decel = c .decel; rows = record { steps = distance (d .place) (c .target); speed = c .speed } ∷ [] }
+planned d c = oneRow c (distance (d .place) (c .target))
 
 -- A cut made over a drive that meant d and a profile that meant p, which then mean d′ and p′: the drive stands at the target, the
 -- profile went the whole plan, and every tick that the plan had at its begin was made, at most ⌈1000 × steps ÷ S⌉ + lag

@@ -4,12 +4,13 @@ use mathlib.Core.Bool.{true, false}
 use Prim.Native.Nat.{ℕ, zero, suc, _-_, _≤_}
 use native.Mathlib.Omega.{arith}
 use lib.IntN.{ℤ, pos, natAbs, _+ℤ_}
+use lib.Signed.{ltZ}
 use Rattle.std.proofs.shelf.Signed.{ints}
-use Rattle.std.proofs.shelf.Tests.{leb-true, le-leb, le-ltb}
+use Rattle.std.proofs.shelf.Tests.{cond-both, leb-true, le-leb, le-ltb}
 use Rattle.std.specs.declared.result.Result.the-variants.{Ok}
-use Rattle.drive.specs.Directions.{signed}
+use Rattle.drive.specs.Directions.{signed, toward}
 use Rattle.drive.specs.Drives.{DriveMeans, landing}
-use Rattle.drive.specs.Positions.{isPosition}
+use Rattle.drive.specs.Positions.{isPosition, distance}
 use Rattle.drive.specs.declared.direction.Direction.{Direction}
 use Rattle.drive.specs.declared.direction.Direction.the-variants.{Cw, Ccw}
 
@@ -40,3 +41,11 @@ between Ccw from n k a b h = le-leb _ _ (omega (arith, ints, leb-true _ _ a, leb
 -- an advance that meets no reason to refuse it lands
 pub lands : (g : ℕ) (m : DriveMeans) (n : ℤ) → m .tripped ≡ false → natAbs n ≤ g → isPosition (m .place +ℤ n) ≡ true → landing g m n ≡ Ok (m .place +ℤ n)
 lands g m n u h q = rw (u, le-ltb g (natAbs n) h, q)
+
+-- the steps between two places, in the direction from one to the other, lead there
+pub toward-reaches : (from to : ℤ) → from +ℤ signed (toward from to) (distance from to) ≡ to
+toward-reaches from to =
+    cond-both (ltZ to from) Ccw Cw (λ way. from +ℤ signed way (distance from to) ≡ to) (λ e. grind (arith, ints)) (λ e. grind (arith, ints))
+
+pub distance-near : (from to : ℤ) → isPosition from ≡ true → isPosition to ≡ true → distance from to ≤ 16777214
+distance-near from to a b = omega (arith, ints, leb-true _ _ a, leb-true _ _ b)
