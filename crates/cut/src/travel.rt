@@ -2,7 +2,7 @@
 ghost use Rattle.profile.specs.Plans.{planMeans};
 ghost use Rattle.cut.specs.Travels.{Ready, Travelled};
 use drive::direction::Direction;
-use drive::token::StepToken;
+use drive::send::send;
 use drive::traits::Drive;
 use profile::plan::Plan;
 use profile::traits::Profile;
@@ -14,7 +14,7 @@ pub(crate) struct Travel {
     pub(crate) steps: u32,
 }
 
-// Begins the plan and ticks until nothing is left; each tick's steps go to the drive through a token.
+// Begins the plan and ticks until nothing is left; each tick's steps go to the drive.
 pub(crate) fn run_plan<D: Drive, P: Profile>(drive: &mut D, profile: &mut P, plan: Plan, direction: Direction) -> Travel
     requires { ⌜ Ready (D·Drive .reach) (D·Drive .means (now drive)) (planMeans plan) direction ⌝ }
     ensures { λ r. ⌜ Travelled (D·Drive .means (now (drive .entry))) (P·Profile .means (now (profile .entry))) (planMeans plan) direction r (D·Drive .means (now (drive .exit))) (P·Profile .means (now (profile .exit))) ⌝ }
@@ -25,8 +25,7 @@ pub(crate) fn run_plan<D: Drive, P: Profile>(drive: &mut D, profile: &mut P, pla
     while !profile.done() {
         let sent = profile.gone() / 1000;
         let _ = profile.tick();
-        let token = StepToken::count(profile.gone(), sent, direction);
-        let Ok(n) = token.deliver(drive) else {
+        let Ok(n) = send(drive, profile.gone(), sent, direction) else {
             unreachable()
         };
         steps += n.unsigned_abs();

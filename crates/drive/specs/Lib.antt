@@ -1,3 +1,4 @@
+pub mod Deliveries
 pub mod Directions
 pub mod Drives
 pub mod PhaseDrives

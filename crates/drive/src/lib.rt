@@ -4,6 +4,7 @@ pub mod fault;
 pub mod phase;
 pub mod position;
 pub mod pulse;
+pub mod send;
 #[cfg(test)]
 mod tests;
 pub mod token;

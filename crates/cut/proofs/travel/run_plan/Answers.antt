@@ -11,13 +11,12 @@ use Rattle.std.proofs.shelf.Tests.{eqb-true, eqb-false}
 use Rattle.std.specs.declared.result.Result.the-variants.{Ok}
 use Rattle.drive.specs.Directions.{signed}
 use Rattle.drive.specs.Drives.{DriveMeans}
-use Rattle.drive.specs.Tokens.{dueOf}
 use Rattle.profile.specs.Plans.{planMeans}
 use Rattle.profile.specs.Profiles.{ProfileMeans}
 use Rattle.cut.proofs.Rolling.{Departure, Turn, sets-out, arrives, goes-on, fits, ends}
 use Rattle.cut.proofs.travel.run_plan.Given as given
 use Rattle.cut.proofs.travel.run_plan.Needs as need
-use Rattle.cut.proofs.travel.run_plan.Needs.{After-begin, After-deliver, After-unsigned-abs-steps}
+use Rattle.cut.proofs.travel.run_plan.Needs.{After-begin, After-send, After-unsigned-abs-steps}
 
 module _ (g : given.Over) (c : After-begin g) where
   departure : Departure (g .D·Drive .reach) (c .args .direction) (g .D·Drive .means (c .args .drive .now)) (planMeans (c .args .plan)) (g .P·Profile .means (c .args .profile .now)) (g .P·Profile .means (c .begin .last .self))
@@ -27,12 +26,12 @@ pub loop-direction-holds : need.loop-direction-holds
 loop-direction-holds g c = sets-out (departure g c)
 
 -- a turn up to its delivery
-module _ (g : given.Over) (c : After-deliver g) where
+module _ (g : given.Over) (c : After-send g) where
   abbrev d : DriveMeans
   d = g .D·Drive .means (c .loop-direction .drive)
 
   abbrev d′ : DriveMeans
-  d′ = g .D·Drive .means (c .deliver .last .drive)
+  d′ = g .D·Drive .means (c .send .last .drive)
 
   abbrev p : ProfileMeans
   p = g .P·Profile .means (c .loop-direction .profile)
@@ -44,7 +43,7 @@ module _ (g : given.Over) (c : After-deliver g) where
   from = g .D·Drive .means (c .args .drive .now) .place
 
   abbrev n : ℤ
-  n = dueOf (c .count-token .result)
+  n = signed (c .args .direction) (c .gone .result / 1000 - c .gone-sent .result / 1000)
 
   out : Departure (g .D·Drive .reach) (c .args .direction) (g .D·Drive .means (c .args .drive .now)) (planMeans (c .args .plan)) (g .P·Profile .means (c .args .profile .now)) (g .P·Profile .means (c .begin .last .self))
   out = record { ready = c .pre; placed = g .D·Drive·met .placed (c .args .drive .now); begun = c .begin .ensures .begun }
@@ -53,24 +52,24 @@ module _ (g : given.Over) (c : After-deliver g) where
   turn = record { roll = c .loop-direction .inv; ticked = c .tick-steps .ensures .ticked; sound = g .P·Profile·met .sound (c .tick-steps .last .self) }
 
   due-is : n ≡ signed (c .args .direction) (p′ .gone / 1000 - p .gone / 1000)
-  due-is = ap dueOf (c .count-token .ensures) ∙ ap₂ (λ a b. signed (c .args .direction) (a / 1000 - b / 1000)) (c .gone .ensures) (c .gone-sent .ensures)
+  due-is = ap₂ (λ a b. signed (c .args .direction) (a / 1000 - b / 1000)) (c .gone .ensures) (c .gone-sent .ensures)
 
   some-left : p .left ≡ 0 → ⊥
   some-left = eqb-false (p .left) 0 (sym (c .loop-direction-test .ensures tt))
 
-  landed : (c .deliver .result ≡ Ok n) × (d′ ≡ record { place = from +ℤ signed (c .args .direction) (p′ .gone / 1000); tripped = false })
+  landed : (c .send .result ≡ Ok n) × (d′ ≡ record { place = from +ℤ signed (c .args .direction) (p′ .gone / 1000); tripped = false })
   landed =
-      arrives out turn n (c .deliver .result) d′ due-is
-      (λ e. let o = c .deliver .ensures .none e in (o .0, ap (g .D·Drive .means) (o .1)))
-      (c .deliver .ensures .some)
+      arrives out turn n (c .send .result) d′ due-is
+      (λ e. let o = c .send .ensures .none e in (o .0, ap (g .D·Drive .means) (o .1)))
+      (c .send .ensures .some)
 
 pub unreachable-requires : need.unreachable-requires
-unreachable-requires g c κs = let a = need.at·unreachable-requires g c .After-deliver in c .in-rest .not-Ok (n g a) (landed g a .0)
+unreachable-requires g c κs = let a = need.at·unreachable-requires g c .After-send in c .in-rest .not-Ok (n g a) (landed g a .0)
 
 -- the steps that the delivery answered
 module _ (g : given.Over) (c : After-unsigned-abs-steps g) where
-  abbrev before : After-deliver g
-  before = need.at·add-steps g c .After-deliver
+  abbrev before : After-send g
+  before = need.at·add-steps g c .After-send
 
   added : c .unsigned-abs-steps .result ≡ natAbs (n g before)
   added =
@@ -81,18 +80,18 @@ module _ (g : given.Over) (c : After-unsigned-abs-steps g) where
 
 pub add-steps : need.add-steps
 add-steps g c =
-    let a = need.at·add-steps g c .After-deliver in
+    let a = need.at·add-steps g c .After-send in
     record { fits = omega (arith, added g c, fits (out g a) (turn g a) (n g a) (due-is g a)) }
 
 pub loop-direction-again : need.loop-direction-again
 loop-direction-again g c =
-    let a = need.at·loop-direction-again g c .After-deliver in
+    let a = need.at·loop-direction-again g c .After-send in
     goes-on (out g a) (turn g a) (n g a) (d′ g a) (c .saturating-add-ticks .result) _ (some-left g a) (due-is g a) (landed g a .1)
     (c .saturating-add-ticks .ensures) (ap (λ k. c .loop-direction .steps + k) (added g (need.at·loop-direction-again g c .After-unsigned-abs-steps)))
 
 pub loop-direction-less : need.loop-direction-less
 loop-direction-less g c =
-    let a = need.at·loop-direction-less g c .After-deliver in
+    let a = need.at·loop-direction-less g c .After-send in
     omega (arith, some-left g a, ap (λ x. x .left) (c .tick-steps .ensures .ticked .after))
 
 pub returns : need.returns
