@@ -98,10 +98,11 @@ module _ (g : ℕ) (d : DriveMeans) (c : Cut) (reach : g ≤ 200) (placed : isPo
 
   pub carried :
       (p : ProfileMeans) (t : Travel) (r : Report) (d′ : DriveMeans) (p′ : ProfileMeans) → Travelled d p (planned d c) (toward (d .place) (c .target)) t d′ p′
-      → r .from ≡ d .place → r .to ≡ d′ .place → r .ticks ≡ t .ticks → r .steps ≡ t .steps → Carried c d p r d′ p′
-  carried p t r d′ p′ v from to ticks steps =
+      → r .from ≡ d .place → r .target ≡ c .target → r .to ≡ d′ .place → r .ticks ≡ t .ticks → r .steps ≡ t .steps → Carried c d p r d′ p′
+  carried p t r d′ p′ v from target to ticks steps =
       record {
         from = from;
+        target = target;
         to = to ∙ (ap (λ x. x .place) (v .drive) ∙ ends-there);
         steps = steps ∙ (v .steps ∙ all-steps);
         begun = v .begun;

@@ -40,6 +40,7 @@ planned d c = oneRow c (distance (d .place) (c .target))
 -- (a count of 2^64 - 1 ticks stays there).
 pub record Carried (c : Cut) (d : DriveMeans) (p : ProfileMeans) (r : Report) (d′ : DriveMeans) (p′ : ProfileMeans) : Type 0 where
   pub from : r .from ≡ d .place
+  pub target : r .target ≡ c .target
   pub to : r .to ≡ c .target
   pub steps : r .steps ≡ distance (d .place) (c .target)
   pub begun : ProfileMeans

@@ -2,4 +2,6 @@
 pub mod fault;
 pub mod make;
 pub mod order;
+#[cfg(test)]
+mod tests;
 mod travel;

@@ -74,6 +74,7 @@ pub fn make_cut<D: Drive, P: Profile>(drive: &mut D, profile: &mut P, cut: Cut) 
     let travel = run_plan(drive, profile, plan, Direction::toward(from, cut.target));
     Ok(Report {
         from,
+        target: cut.target,
         to: drive.place(),
         ticks: travel.ticks,
         steps: travel.steps,

@@ -10,10 +10,11 @@ pub struct Cut {
     pub decel: u32,
 }
 
-// Where a cut began and ended, and the ticks and steps that it took.
+// Where a cut began, where it was sent and where it ended, and the ticks and steps that it took.
 #[derive(Clone, Copy, PartialEq, Eq, Debug)]
 pub struct Report {
     pub from: i32,
+    pub target: i32,
     pub to: i32,
     pub ticks: u64,
     pub steps: u32,

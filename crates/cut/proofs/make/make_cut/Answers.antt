@@ -78,4 +78,4 @@ returns g c =
     (passes g (a g b),
     carried (g .D·Drive .reach) (m g b) (c .args .cut) (g .D·Drive·met .bounded .1) (g .D·Drive·met .placed (c .args .drive .now)) (ok g (a g b)) p (c .run-plan-travel .result) _ d′ p′
     (subst Q (turn-is g b) (subst P (plan-is g b) (c .run-plan-travel .ensures)))
-    (place-is g (a g b)) (toZ-ofZ w32 (c .place .result) f ∙ c .place .ensures) refl refl)
+    (place-is g (a g b)) (target-is g (a g b)) (toZ-ofZ w32 (c .place .result) f ∙ c .place .ensures) refl refl)

@@ -1,0 +1,4 @@
+pub mod Decimals
+pub mod Lines
+pub mod TextLines
+pub mod Texts
