@@ -1,7 +1,12 @@
 // A plan, travelled to its end.
+ghost use Prim.Native.Nat.{ℕ, _/_, _-_};
+ghost use Rattle.drive.specs.Deliveries.{Delivered};
+ghost use Rattle.drive.specs.Directions.{signed};
 ghost use Rattle.profile.specs.Plans.{planMeans};
+ghost use Rattle.profile.specs.Profiles.{Ticked};
 ghost use Rattle.cut.specs.Travels.{Ready, Travelled};
 use drive::direction::Direction;
+use drive::fault::DriveFault;
 use drive::send::send;
 use drive::traits::Drive;
 use profile::plan::Plan;
@@ -14,7 +19,17 @@ pub(crate) struct Travel {
     pub(crate) steps: u32,
 }
 
-// Begins the plan and ticks until nothing is left; each tick's steps go to the drive.
+// One tick of the profile; the steps that it makes due go to the drive.
+fn tick_once<D: Drive, P: Profile>(drive: &mut D, profile: &mut P, direction: Direction) -> Result<i32, DriveFault>
+    ensures ticked { λ _. ⌜ ((advance : ℕ) × Ticked (P·Profile .means (now (profile .entry))) advance (P·Profile .means (now (profile .exit)))) ⌝ }
+    ensures sent { λ r. ⌜ Delivered (D·Drive .means) (D·Drive .reach) (signed direction (P·Profile .means (now (profile .exit)) .gone / 1000 - P·Profile .means (now (profile .entry)) .gone / 1000)) (now (drive .entry)) r (now (drive .exit)) ⌝ }
+{
+    let sent = profile.gone() / 1000;
+    let _ = profile.tick();
+    send(drive, profile.gone(), sent, direction)
+}
+
+// Begins the plan and ticks until nothing is left.
 pub(crate) fn run_plan<D: Drive, P: Profile>(drive: &mut D, profile: &mut P, plan: Plan, direction: Direction) -> Travel
     requires { ⌜ Ready (D·Drive .reach) (D·Drive .means (now drive)) (planMeans plan) direction ⌝ }
     ensures { λ r. ⌜ Travelled (D·Drive .means (now (drive .entry))) (P·Profile .means (now (profile .entry))) (planMeans plan) direction r (D·Drive .means (now (drive .exit))) (P·Profile .means (now (profile .exit))) ⌝ }
@@ -23,9 +38,7 @@ pub(crate) fn run_plan<D: Drive, P: Profile>(drive: &mut D, profile: &mut P, pla
     let mut ticks: u64 = 0;
     let mut steps: u32 = 0;
     while !profile.done() {
-        let sent = profile.gone() / 1000;
-        let _ = profile.tick();
-        let Ok(n) = send(drive, profile.gone(), sent, direction) else {
+        let Ok(n) = tick_once(drive, profile, direction) else {
             unreachable()
         };
         steps += n.unsigned_abs();

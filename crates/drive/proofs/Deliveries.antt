@@ -8,7 +8,8 @@ use lib.IntN.{ℤ, pos, natAbs}
 use Rattle.std.proofs.shelf.Tests.{cases-lt, lt-ltb}
 use Rattle.std.specs.declared.result.Result.{Result}
 use Rattle.std.specs.declared.result.Result.the-variants.{Ok, Err}
-use Rattle.drive.proofs.Landings.{natAbs-signed}
+use Rattle.drive.proofs.Landings.{natAbs-signed, signed-zero}
+use Rattle.drive.specs.Deliveries.{Delivered}
 use Rattle.drive.specs.Directions.{signed}
 use Rattle.drive.specs.Drives.{DriveMeans, Moved, landing, landed, answering}
 use Rattle.drive.specs.declared.direction.Direction.{Direction}
@@ -26,14 +27,9 @@ refuses : (b : Bool) (p : ℤ) → cond b (Err Tripped) (Err TooFar) ≡ Ok p �
 refuses true p e = let z : _≡_ {A = ℕ} 0 1 = cc in omega arith
 refuses false p e = let z : _≡_ {A = ℕ} 0 1 = cc in omega arith
 
--- what a delivery answers, by what its advance answered
-abbrev pub answered : Result (Unit {0}) DriveFault → ℤ → Result ℤ DriveFault
-answered (Ok _) n = Ok n
-answered (Err e) n = Err e
-
-carried : (to : Result ℤ DriveFault) (r : Result (Unit {0}) DriveFault) (n n′ : ℤ) → r ≡ answering to tt → ((p : ℤ) → to ≡ Ok p → n′ ≡ n) → answered r n′ ≡ answering to n
-carried (Ok p) r n n′ e h = ap (λ x. answered x n′) e ∙ ap Ok (h p refl)
-carried (Err x) r n n′ e h = ap (λ x. answered x n′) e
+answers-alike : (to : Result ℤ DriveFault) (n n′ : ℤ) → ((p : ℤ) → to ≡ Ok p → n′ ≡ n) → answering to n′ ≡ answering to n
+answers-alike (Ok p) n n′ h = ap Ok (h p refl)
+answers-alike (Err e) n n′ h = refl
 
 module _ (g : ℕ) (m : DriveMeans) (d : Direction) (s : ℕ) (reach : g ≤ 200) where
   abbrev capped : ℤ
@@ -60,9 +56,24 @@ module _ (g : ℕ) (m : DriveMeans) (d : Direction) (s : ℕ) (reach : g ≤ 200
       near-alike
       (cases-lt 2147483647 s)
 
-  pub delivered : (r : Result (Unit {0}) DriveFault) (m′ : DriveMeans) → Moved m (landing g m capped) tt r m′ → Moved m (landing g m (signed d s)) (signed d s) (answered r capped) m′
-  delivered r m′ v =
+  moves-alike : (r : Result ℤ DriveFault) (m′ : DriveMeans) → Moved m (landing g m capped) capped r m′ → Moved m (landing g m (signed d s)) (signed d s) r m′
+  moves-alike r m′ v =
       record {
-        answer = carried (landing g m (signed d s)) r (signed d s) capped (v .answer ∙ ap (λ to. answering to tt) lands-alike) taken-whole;
+        answer = v .answer ∙ (ap (λ to. answering to capped) lands-alike ∙ answers-alike (landing g m (signed d s)) (signed d s) capped taken-whole);
         after = v .after ∙ ap (landed m) lands-alike;
       }
+
+-- what is true of as many steps as an `i32` holds is true of all
+pub delivered :
+    {D : Type 0} (means : D → DriveMeans) (g : ℕ) (d : Direction) (s : ℕ) (before : D) (r : Result ℤ DriveFault) (after : D) → g ≤ 200
+    → Delivered means g (signed d (min s 2147483647)) before r after → Delivered means g (signed d s) before r after
+delivered means g d s before r after reach v =
+    record {
+      none = λ e.
+          let z : min s 2147483647 ≡ 0 = omega (arith, signed-none d s e) in
+          v .none (ap (signed d) z ∙ signed-zero d);
+      some = λ h.
+          moves-alike g (means before) d s reach r (means after)
+          (v .some (λ e. h (let z : s ≡ 0 = omega (arith, signed-none d (min s 2147483647) e) in ap (signed d) z ∙ signed-zero d)));
+      refused = v .refused;
+    }

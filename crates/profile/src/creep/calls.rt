@@ -3,7 +3,7 @@ ghost use mathlib.Core.Path.{_≡_};
 ghost use Prim.Native.Nat.{_+_, _*_};
 ghost use Rattle.std.specs.declared.option.Option.the-variants.{Some, None};
 ghost use Rattle.profile.specs.Plans.{planMeans, planOf, planSteps};
-ghost use Rattle.profile.specs.Profiles.{Begun, Ticked, Braked, startOf};
+ghost use Rattle.profile.specs.Profiles.{Begun, Ticked, Braked};
 ghost use Rattle.profile.specs.Creeping.{creeping, creepAdvance};
 ghost use Rattle.profile.specs.Creeps.{creepMeans};
 use super::Creep;
@@ -22,14 +22,22 @@ impl Creep {
         }
     }
 
-    // The plan's starting speed, 0 without one.
-    fn start(&self) -> u32
-        ensures { λ r. ⌜ r ≡ startOf (planOf (now (self .entry) .plan)) ⌝ }
+    // The next advance: the starting speed, or what is left where that is less.
+    fn next_advance(&self) -> u32
+        ensures { λ r. ⌜ r ≡ creepAdvance (creepMeans (now (self .entry))) ⌝ }
     {
-        match &self.plan {
+        let start = match &self.plan {
             Some(plan) => plan.start(),
             None => 0,
-        }
+        };
+        (self.asked - self.gone).min(start as u64) as u32
+    }
+
+    // Asks for no more than has gone.
+    fn ask_no_more(&mut self)
+        ensures { λ _. ⌜ creepMeans (now (self .exit)) ≡ creeping (planOf (now (self .entry) .plan)) (now (self .entry) .gone) (now (self .entry) .gone) ⌝ }
+    {
+        self.asked = self.gone;
     }
 }
 
@@ -50,17 +58,16 @@ pub impl Profile for Creep as CreepIsProfile {
         ensures advance { λ r. ⌜ r ≡ creepAdvance (creepMeans (now (self .entry))) ⌝ }
         ensures exactly { λ r. ⌜ creepMeans (now (self .exit)) ≡ creeping (planOf (now (self .entry) .plan)) (now (self .entry) .asked) (now (self .entry) .gone + r) ⌝ }
     {
-        let rest = self.asked - self.gone;
-        let advance = rest.min(self.start() as u64);
-        self.gone += advance;
-        advance as u32
+        let advance = self.next_advance();
+        self.gone += advance as u64;
+        advance
     }
 
     fn brake(&mut self)
         ensures braked { λ _. ⌜ Braked (creepMeans (now (self .entry))) (creepMeans (now (self .exit))) ⌝ }
         ensures exactly { λ _. ⌜ creepMeans (now (self .exit)) ≡ creeping (planOf (now (self .entry) .plan)) (now (self .entry) .gone) (now (self .entry) .gone) ⌝ }
     {
-        self.asked = self.gone;
+        self.ask_no_more();
     }
 
     fn gone(&self) -> u64 {

@@ -1,4 +1,4 @@
-use mathlib.Core.Path.{_≡_, sym, ap, ap₂, _∙_}
+use mathlib.Core.Path.{_≡_, refl, sym, ap, _∙_}
 use Prim.Native.Nat.{_+_, _-_, _/_}
 use borrow.Author.Needs.{needs}
 use native.Mathlib.Omega.{arith}
@@ -16,7 +16,7 @@ use Rattle.profile.specs.Profiles.{ProfileMeans}
 use Rattle.cut.proofs.Rolling.{Departure, Turn, sets-out, arrives, goes-on, fits, ends}
 use Rattle.cut.proofs.travel.run_plan.Given as given
 use Rattle.cut.proofs.travel.run_plan.Needs as need
-use Rattle.cut.proofs.travel.run_plan.Needs.{After-begin, After-send, After-unsigned-abs-steps}
+use Rattle.cut.proofs.travel.run_plan.Needs.{After-begin, After-tick-once, After-unsigned-abs-steps}
 
 module _ (g : given.Over) (c : After-begin g) where
   departure : Departure (g .D·Drive .reach) (c .args .direction) (g .D·Drive .means (c .args .drive .now)) (planMeans (c .args .plan)) (g .P·Profile .means (c .args .profile .now)) (g .P·Profile .means (c .begin .last .self))
@@ -26,50 +26,47 @@ pub loop-direction-holds : need.loop-direction-holds
 loop-direction-holds g c = sets-out (departure g c)
 
 -- a turn up to its delivery
-module _ (g : given.Over) (c : After-send g) where
+module _ (g : given.Over) (c : After-tick-once g) where
   abbrev d : DriveMeans
   d = g .D·Drive .means (c .loop-direction .drive)
 
   abbrev d′ : DriveMeans
-  d′ = g .D·Drive .means (c .send .last .drive)
+  d′ = g .D·Drive .means (c .tick-once .last .drive)
 
   abbrev p : ProfileMeans
   p = g .P·Profile .means (c .loop-direction .profile)
 
   abbrev p′ : ProfileMeans
-  p′ = g .P·Profile .means (c .tick-steps .last .self)
+  p′ = g .P·Profile .means (c .tick-once .last .profile)
 
   abbrev from : ℤ
   from = g .D·Drive .means (c .args .drive .now) .place
 
   abbrev n : ℤ
-  n = signed (c .args .direction) (c .gone .result / 1000 - c .gone-sent .result / 1000)
+  n = signed (c .args .direction) (p′ .gone / 1000 - p .gone / 1000)
 
   out : Departure (g .D·Drive .reach) (c .args .direction) (g .D·Drive .means (c .args .drive .now)) (planMeans (c .args .plan)) (g .P·Profile .means (c .args .profile .now)) (g .P·Profile .means (c .begin .last .self))
   out = record { ready = c .pre; placed = g .D·Drive·met .placed (c .args .drive .now); begun = c .begin .ensures .begun }
 
-  turn : Turn (c .args .direction) from (g .P·Profile .means (c .begin .last .self)) d p p′ (c .loop-direction .ticks) (c .loop-direction .steps) (c .tick-steps .result)
-  turn = record { roll = c .loop-direction .inv; ticked = c .tick-steps .ensures .ticked; sound = g .P·Profile·met .sound (c .tick-steps .last .self) }
-
-  due-is : n ≡ signed (c .args .direction) (p′ .gone / 1000 - p .gone / 1000)
-  due-is = ap₂ (λ a b. signed (c .args .direction) (a / 1000 - b / 1000)) (c .gone .ensures) (c .gone-sent .ensures)
+  turn : Turn (c .args .direction) from (g .P·Profile .means (c .begin .last .self)) d p p′ (c .loop-direction .ticks) (c .loop-direction .steps) (c .tick-once .ensures .ticked .0)
+  turn = record { roll = c .loop-direction .inv; ticked = c .tick-once .ensures .ticked .1; sound = g .P·Profile·met .sound (c .tick-once .last .profile) }
 
   some-left : p .left ≡ 0 → ⊥
   some-left = eqb-false (p .left) 0 (sym (c .loop-direction-test .ensures tt))
 
-  landed : (c .send .result ≡ Ok n) × (d′ ≡ record { place = from +ℤ signed (c .args .direction) (p′ .gone / 1000); tripped = false })
+  landed : (c .tick-once .result ≡ Ok n) × (d′ ≡ record { place = from +ℤ signed (c .args .direction) (p′ .gone / 1000); tripped = false })
   landed =
-      arrives out turn n (c .send .result) d′ due-is
-      (λ e. let o = c .send .ensures .none e in (o .0, ap (g .D·Drive .means) (o .1)))
-      (c .send .ensures .some)
+      arrives out turn n (c .tick-once .result) d′ refl
+      (λ e. let o = c .tick-once .ensures .sent .none e in (o .0, ap (g .D·Drive .means) (o .1)))
+      (c .tick-once .ensures .sent .some)
 
 pub unreachable-requires : need.unreachable-requires
-unreachable-requires g c κs = let a = need.at·unreachable-requires g c .After-send in c .in-rest .not-Ok (n g a) (landed g a .0)
+unreachable-requires g c κs = let a = need.at·unreachable-requires g c .After-tick-once in c .in-rest .not-Ok (n g a) (landed g a .0)
 
 -- the steps that the delivery answered
 module _ (g : given.Over) (c : After-unsigned-abs-steps g) where
-  abbrev before : After-send g
-  before = need.at·add-steps g c .After-send
+  abbrev before : After-tick-once g
+  before = need.at·add-steps g c .After-tick-once
 
   added : c .unsigned-abs-steps .result ≡ natAbs (n g before)
   added =
@@ -80,19 +77,19 @@ module _ (g : given.Over) (c : After-unsigned-abs-steps g) where
 
 pub add-steps : need.add-steps
 add-steps g c =
-    let a = need.at·add-steps g c .After-send in
-    record { fits = omega (arith, added g c, fits (out g a) (turn g a) (n g a) (due-is g a)) }
+    let a = need.at·add-steps g c .After-tick-once in
+    record { fits = omega (arith, added g c, fits (out g a) (turn g a) (n g a) refl) }
 
 pub loop-direction-again : need.loop-direction-again
 loop-direction-again g c =
-    let a = need.at·loop-direction-again g c .After-send in
-    goes-on (out g a) (turn g a) (n g a) (d′ g a) (c .saturating-add-ticks .result) _ (some-left g a) (due-is g a) (landed g a .1)
+    let a = need.at·loop-direction-again g c .After-tick-once in
+    goes-on (out g a) (turn g a) (n g a) (d′ g a) (c .saturating-add-ticks .result) _ (some-left g a) refl (landed g a .1)
     (c .saturating-add-ticks .ensures) (ap (λ k. c .loop-direction .steps + k) (added g (need.at·loop-direction-again g c .After-unsigned-abs-steps)))
 
 pub loop-direction-less : need.loop-direction-less
 loop-direction-less g c =
-    let a = need.at·loop-direction-less g c .After-send in
-    omega (arith, some-left g a, ap (λ x. x .left) (c .tick-steps .ensures .ticked .after))
+    let a = need.at·loop-direction-less g c .After-tick-once in
+    omega (arith, some-left g a, ap (λ x. x .left) (c .tick-once .ensures .ticked .1 .after))
 
 pub returns : need.returns
 returns g c =
