@@ -1,2 +1,3 @@
 pub mod Tables
 pub mod TableMeaning
+pub mod Tallies

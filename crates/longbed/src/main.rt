@@ -3,6 +3,7 @@ mod motor;
 mod refusal;
 mod run;
 mod table;
+mod tally;
 #[cfg(test)]
 mod tests;
 

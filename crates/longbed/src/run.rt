@@ -1,10 +1,17 @@
 // Runs a script and prints what it did: cuts on the standard output, refused lines on the standard error.
+ghost use mathlib.Core.Path.{_≡_};
+ghost use Rattle.std.specs.Results.{Cases};
+ghost use Rattle.std.specs.declared.result.Result.the-variants.{Err};
+ghost use Rattle.script.specs.Lines.{lineOf};
+ghost use Rattle.longbed.specs.TableMeaning.{tableMeans};
+ghost use Rattle.longbed.specs.Tables.{Taken};
 use crate::motor::Motor;
 use crate::motor::PhaseIsMotor;
 use crate::motor::PulseIsMotor;
 use crate::refusal::Refusal;
 use crate::refusal::RefusalDisplay;
 use crate::table::Table;
+use crate::tally::Tally;
 use cut::order::Report;
 use drive::phase::PhaseDrive;
 use drive::phase::PhaseIsDrive;
@@ -21,36 +28,12 @@ use script::lines::Lines;
 use script::read::read_line;
 use std::io;
 
-// How many lines were refused, and how many cuts were asked for and ended where they were sent.
-#[derive(Clone, Copy)]
-struct Tally {
-    refused: u64,
-    asked: u64,
-    arrived: u64,
-}
-
-impl Tally {
-    fn count(&mut self, taken: Result<Option<Report>, Refusal>) {
-        match taken {
-            Ok(None) => {}
-            Ok(Some(report)) => {
-                self.asked = self.asked.saturating_add(1);
-                if report.to == report.target {
-                    self.arrived = self.arrived.saturating_add(1);
-                }
-            }
-            Err(refusal) => {
-                self.refused = self.refused.saturating_add(1);
-                if let Refusal::Cut(_) = refusal {
-                    self.asked = self.asked.saturating_add(1);
-                }
-            }
-        }
-    }
-}
-
 // Takes a line as it was written.
-pub fn take_text<D: Motor, P: Profile>(table: &mut Table<D, P>, text: &[u8]) -> Result<Option<Report>, Refusal> {
+pub fn take_text<D: Motor, P: Profile>(table: &mut Table<D, P>, text: &[u8]) -> Result<Option<Report>, Refusal>
+    ensures { λ r. ⌜ Cases (lineOf (now (text .entry)))
+        (λ line. Taken (D·Drive .reach) (tableMeans (D·Drive .means) (P·Profile .means) (now (table .entry))) line r (tableMeans (D·Drive .means) (P·Profile .means) (now (table .exit))))
+        (λ fault. (r ≡ Err (Refusal.Line fault)) × (now (table .exit) ≡ now (table .entry))) ⌝ }
+{
     match read_line(text) {
         Ok(line) => table.take(line),
         Err(fault) => Err(Refusal::Line(fault)),
@@ -61,6 +44,15 @@ fn print_cut<D: Motor>(rt: &LibcRuntime, number: u64, report: Report, drive: &D)
     let Report { from, target: _, to, ticks, steps } = report;
     print!(rt, "line {number}: cut from {from} to {to}: {ticks} ticks, {steps} steps")?;
     print_coils(rt, drive)
+}
+
+// Tells what a line came to; one that only prepares the bed is not told.
+fn print_taken<D: Motor>(rt: &LibcRuntime, number: u64, taken: Result<Option<Report>, Refusal>, drive: &D) -> io::Result<()> {
+    match taken {
+        Ok(None) => Ok(()),
+        Ok(Some(report)) => print_cut(rt, number, report, drive),
+        Err(refusal) => eprintln!(rt, "line {number}: {refusal}"),
+    }
 }
 
 fn print_coils<D: Motor>(rt: &LibcRuntime, drive: &D) -> io::Result<()> {
@@ -85,16 +77,12 @@ fn print_end<D: Motor>(rt: &LibcRuntime, tally: Tally, drive: &D) -> io::Result<
 // Takes the lines after the one that names the bed, and tells whether none was refused.
 fn run_bed<D: Motor + Drop, P: Profile + Drop>(rt: &LibcRuntime, drive: D, profile: P, mut lines: Lines, mut number: u64) -> io::Result<bool> {
     let mut table = Table::new(drive, profile);
-    let mut tally = Tally { refused: 0, asked: 0, arrived: 0 };
+    let mut tally = Tally::new();
     while let Some(text) = lines.next_line() {
         number = number.saturating_add(1);
         let taken = take_text(&mut table, text);
         tally.count(taken);
-        match taken {
-            Ok(None) => {}
-            Ok(Some(report)) => print_cut(rt, number, report, table.drive())?,
-            Err(refusal) => eprintln!(rt, "line {number}: {refusal}")?,
-        }
+        print_taken(rt, number, taken, table.drive())?;
     }
     print_end(rt, tally, table.drive())?;
     Ok(tally.refused == 0)
