@@ -82,7 +82,7 @@ module _ {g : ℕ} {way : Direction} {d₀ : DriveMeans} {plan : PlanMeans} {p�
     takes : landing g d (signed way due) ≡ Ok (d₀ .place +ℤ signed way (p′ .gone / 1000))
     takes =
         let e : d .place +ℤ signed way due ≡ d₀ .place +ℤ signed way (p′ .gone / 1000) =
-            ap (λ x. x .place +ℤ signed way due) (u .roll .drive) ∙ signed-joins way (d₀ .place) (p .gone / 1000) (p′ .gone / 1000) later in
+        ap (λ x. x .place +ℤ signed way due) (u .roll .drive) ∙ signed-joins way (d₀ .place) (p .gone / 1000) (p′ .gone / 1000) later in
         let few : natAbs (signed way due) ≤ g = rw (natAbs-signed way due) (omega (arith, grows, slow)) in
         let P : ℤ → Type 0 = λ z. isPosition z ≡ true in
         lands g d (signed way due) (ap (λ x. x .tripped) (u .roll .drive)) few
@@ -98,14 +98,16 @@ module _ {g : ℕ} {way : Direction} {d₀ : DriveMeans} {plan : PlanMeans} {p�
         ⊎-elim
         (λ (z : due ≡ 0).
         let w = none (e ∙ (ap (signed way) z ∙ signed-zero way)) in
-        let same : p .gone / 1000 ≡ p′ .gone / 1000 = omega (arith, later) in
-        (w .0 ∙ ap Ok (sym (e ∙ (ap (signed way) z ∙ signed-zero way))),
-        w .1 ∙ (u .roll .drive ∙ ap (λ k. record { place = d₀ .place +ℤ signed way k; tripped = false }) same)))
+        let same : p .gone / 1000 ≡ p′ .gone / 1000 = omega (arith, later) in (
+          w .0 ∙ ap Ok (sym (e ∙ (ap (signed way) z ∙ signed-zero way))),
+          w .1 ∙ (u .roll .drive ∙ ap (λ k. record { place = d₀ .place +ℤ signed way k; tripped = false }) same),
+        ))
         (λ (z : due ≡ 0 → ⊥).
         let v = some (λ h. z (signed-none way due (sym e ∙ h))) in
-        let to : landing g d n ≡ Ok (d₀ .place +ℤ signed way (p′ .gone / 1000)) = ap (landing g d) e ∙ takes in
-        (v .answer ∙ ap (λ x. answering x n) to,
-        v .after ∙ (ap (landed d) to ∙ ap (λ b. record { place = d₀ .place +ℤ signed way (p′ .gone / 1000); tripped = b }) (ap (λ x. x .tripped) (u .roll .drive)))))
+        let to : landing g d n ≡ Ok (d₀ .place +ℤ signed way (p′ .gone / 1000)) = ap (landing g d) e ∙ takes in (
+          v .answer ∙ ap (λ x. answering x n) to,
+          v .after ∙ (ap (landed d) to ∙ ap (λ b. record { place = d₀ .place +ℤ signed way (p′ .gone / 1000); tripped = b }) (ap (λ x. x .tripped) (u .roll .drive))),
+        ))
         (cases-eq due 0)
 
     -- one turn on

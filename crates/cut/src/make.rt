@@ -52,7 +52,10 @@ fn plan_of(cut: Cut, steps: u32) -> Plan
     requires { ⌜ Lawful (oneRow cut steps) ⌝ }
     ensures { λ r. ⌜ planMeans r ≡ oneRow cut steps ⌝ }
 {
-    let row = Row { steps, speed: cut.speed };
+    let row = Row {
+        steps,
+        speed: cut.speed,
+    };
     let Ok(plan) = Plan::new(cut.start, cut.accel, cut.decel, &[row]) else {
         unreachable()
     };
@@ -60,7 +63,11 @@ fn plan_of(cut: Cut, steps: u32) -> Plan
 }
 
 // Makes a cut, or refuses it and changes nothing.
-pub fn make_cut<D: Drive, P: Profile>(drive: &mut D, profile: &mut P, cut: Cut) -> Result<Report, CutFault>
+pub fn make_cut<D: Drive, P: Profile>(
+    drive: &mut D,
+    profile: &mut P,
+    cut: Cut,
+) -> Result<Report, CutFault>
     ensures { λ r. ⌜ Cases r (λ report. (judged (D·Drive .reach) (D·Drive .means (now (drive .entry))) cut ≡ None)
         × Carried cut (D·Drive .means (now (drive .entry))) (P·Profile .means (now (profile .entry))) report (D·Drive .means (now (drive .exit))) (P·Profile .means (now (profile .exit))))
         (λ fault. (judged (D·Drive .reach) (D·Drive .means (now (drive .entry))) cut ≡ Some fault)

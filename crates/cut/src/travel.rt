@@ -20,7 +20,11 @@ pub(crate) struct Travel {
 }
 
 // One tick of the profile; the steps that it makes due go to the drive.
-fn tick_once<D: Drive, P: Profile>(drive: &mut D, profile: &mut P, direction: Direction) -> Result<i32, DriveFault>
+fn tick_once<D: Drive, P: Profile>(
+    drive: &mut D,
+    profile: &mut P,
+    direction: Direction,
+) -> Result<i32, DriveFault>
     ensures ticked { λ _. ⌜ ((advance : ℕ) × Ticked (P·Profile .means (now (profile .entry))) advance (P·Profile .means (now (profile .exit)))) ⌝ }
     ensures sent { λ r. ⌜ Delivered (D·Drive .means) (D·Drive .reach) (signed direction (P·Profile .means (now (profile .exit)) .gone / 1000 - P·Profile .means (now (profile .entry)) .gone / 1000)) (now (drive .entry)) r (now (drive .exit)) ⌝ }
 {
@@ -30,7 +34,12 @@ fn tick_once<D: Drive, P: Profile>(drive: &mut D, profile: &mut P, direction: Di
 }
 
 // Begins the plan and ticks until nothing is left.
-pub(crate) fn run_plan<D: Drive, P: Profile>(drive: &mut D, profile: &mut P, plan: Plan, direction: Direction) -> Travel
+pub(crate) fn run_plan<D: Drive, P: Profile>(
+    drive: &mut D,
+    profile: &mut P,
+    plan: Plan,
+    direction: Direction,
+) -> Travel
     requires { ⌜ Ready (D·Drive .reach) (D·Drive .means (now drive)) (planMeans plan) direction ⌝ }
     ensures { λ r. ⌜ Travelled (D·Drive .means (now (drive .entry))) (P·Profile .means (now (profile .entry))) (planMeans plan) direction r (D·Drive .means (now (drive .exit))) (P·Profile .means (now (profile .exit))) ⌝ }
 {

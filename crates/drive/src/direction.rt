@@ -38,6 +38,10 @@ impl Direction {
     pub fn toward(from: i32, to: i32) -> Direction
         ensures { λ r. ⌜ r ≡ towardOf from to ⌝ }
     {
-        if to < from { Direction::Ccw } else { Direction::Cw }
+        if to < from {
+            Direction::Ccw
+        } else {
+            Direction::Cw
+        }
     }
 }

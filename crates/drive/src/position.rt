@@ -35,12 +35,20 @@ pub(crate) fn landing(place: i32, tripped: bool, reach: u32, n: i32) -> Result<i
         return Err(DriveFault::TooFar);
     }
     let to = place + n;
-    if is_position(to) { Ok(to) } else { Err(DriveFault::NoPosition) }
+    if is_position(to) {
+        Ok(to)
+    } else {
+        Err(DriveFault::NoPosition)
+    }
 }
 
 // The place that a set gives, or why it refuses.
 pub(crate) fn setting(p: i32) -> Result<i32, DriveFault>
     ensures { λ r. ⌜ r ≡ settingOf p ⌝ }
 {
-    if is_position(p) { Ok(p) } else { Err(DriveFault::NoPosition) }
+    if is_position(p) {
+        Ok(p)
+    } else {
+        Err(DriveFault::NoPosition)
+    }
 }

@@ -85,13 +85,34 @@ fn coils_go_round_in_both_directions() -> Result<(), Fail> {
 #[test]
 fn token_delivers_the_whole_steps_once() -> Result<(), Fail> {
     let mut drive = PhaseDrive::new();
-    check_eq(StepToken::count(3999, 0, Direction::Ccw).deliver(&mut drive), Ok(-3))?;
-    check_eq(StepToken::count(3999, 3, Direction::Ccw).deliver(&mut drive), Ok(0))?;
-    check_eq(StepToken::count(23_000, 3, Direction::Ccw).deliver(&mut drive), Ok(-20))?;
-    check_eq(StepToken::count(44_000, 23, Direction::Ccw).deliver(&mut drive), Err(DriveFault::TooFar))?;
-    check_eq(StepToken::count(u64::MAX, 0, Direction::Cw).deliver(&mut drive), Err(DriveFault::TooFar))?;
+    check_eq(
+        StepToken::count(3999, 0, Direction::Ccw).deliver(&mut drive),
+        Ok(-3),
+    )?;
+    check_eq(
+        StepToken::count(3999, 3, Direction::Ccw).deliver(&mut drive),
+        Ok(0),
+    )?;
+    check_eq(
+        StepToken::count(23_000, 3, Direction::Ccw).deliver(&mut drive),
+        Ok(-20),
+    )?;
+    check_eq(
+        StepToken::count(44_000, 23, Direction::Ccw).deliver(&mut drive),
+        Err(DriveFault::TooFar),
+    )?;
+    check_eq(
+        StepToken::count(u64::MAX, 0, Direction::Cw).deliver(&mut drive),
+        Err(DriveFault::TooFar),
+    )?;
     drive.trip();
-    check_eq(StepToken::count(999, 0, Direction::Cw).deliver(&mut drive), Ok(0))?;
-    check_eq(StepToken::count(u64::MAX, 0, Direction::Cw).deliver(&mut drive), Err(DriveFault::Tripped))?;
+    check_eq(
+        StepToken::count(999, 0, Direction::Cw).deliver(&mut drive),
+        Ok(0),
+    )?;
+    check_eq(
+        StepToken::count(u64::MAX, 0, Direction::Cw).deliver(&mut drive),
+        Err(DriveFault::Tripped),
+    )?;
     check_eq(drive.place(), -23)
 }

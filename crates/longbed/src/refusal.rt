@@ -37,8 +37,10 @@ fn line_text(fault: LineFault) -> &'static str {
 fn cut_text(fault: CutFault) -> &'static str {
     match fault {
         CutFault::Target => "the target is no position (-8388607 to 8388607)",
-        CutFault::Start => "the starting speed is out of range (1 to 1000 times the drive's steps a tick)",
-        CutFault::Speed => "the speed is out of range (starting speed to 1000 times the drive's steps a tick)",
+        CutFault::Start =>
+            "the starting speed is out of range (1 to 1000 times the drive's steps a tick)",
+        CutFault::Speed =>
+            "the speed is out of range (starting speed to 1000 times the drive's steps a tick)",
         CutFault::Acceleration => "the acceleration is out of range (1 to 5000)",
         CutFault::Deceleration => "the deceleration is out of range (1 to 5000)",
         CutFault::Tripped => "the drive is tripped",

@@ -29,7 +29,10 @@ use script::read::read_line;
 use std::io;
 
 // Takes a line as it was written.
-pub fn take_text<D: Motor, P: Profile>(table: &mut Table<D, P>, text: &[u8]) -> Result<Option<Report>, Refusal>
+pub fn take_text<D: Motor, P: Profile>(
+    table: &mut Table<D, P>,
+    text: &[u8],
+) -> Result<Option<Report>, Refusal>
     ensures { λ r. ⌜ Cases (lineOf (now (text .entry)))
         (λ line. Taken (D·Drive .reach) (tableMeans (D·Drive .means) (P·Profile .means) (now (table .entry))) line r (tableMeans (D·Drive .means) (P·Profile .means) (now (table .exit))))
         (λ fault. (r ≡ Err (Refusal.Line fault)) × (now (table .exit) ≡ now (table .entry))) ⌝ }
@@ -41,13 +44,27 @@ pub fn take_text<D: Motor, P: Profile>(table: &mut Table<D, P>, text: &[u8]) -> 
 }
 
 fn print_cut<D: Motor>(rt: &LibcRuntime, number: u64, report: Report, drive: &D) -> io::Result<()> {
-    let Report { from, target: _, to, ticks, steps } = report;
-    print!(rt, "line {number}: cut from {from} to {to}: {ticks} ticks, {steps} steps")?;
+    let Report {
+        from,
+        target: _,
+        to,
+        ticks,
+        steps,
+    } = report;
+    print!(
+        rt,
+        "line {number}: cut from {from} to {to}: {ticks} ticks, {steps} steps"
+    )?;
     print_coils(rt, drive)
 }
 
 // Tells what a line came to; one that only prepares the bed is not told.
-fn print_taken<D: Motor>(rt: &LibcRuntime, number: u64, taken: Result<Option<Report>, Refusal>, drive: &D) -> io::Result<()> {
+fn print_taken<D: Motor>(
+    rt: &LibcRuntime,
+    number: u64,
+    taken: Result<Option<Report>, Refusal>,
+    drive: &D,
+) -> io::Result<()> {
     match taken {
         Ok(None) => Ok(()),
         Ok(Some(report)) => print_cut(rt, number, report, drive),
@@ -66,7 +83,11 @@ fn print_end<D: Motor>(rt: &LibcRuntime, tally: Tally, drive: &D) -> io::Result<
     let place = drive.place();
     print!(rt, "place {place}")?;
     print_coils(rt, drive)?;
-    let Tally { refused: _, asked, arrived } = tally;
+    let Tally {
+        refused: _,
+        asked,
+        arrived,
+    } = tally;
     if arrived == asked {
         println!(rt, "every cut ended where it was sent")
     } else {
@@ -75,7 +96,13 @@ fn print_end<D: Motor>(rt: &LibcRuntime, tally: Tally, drive: &D) -> io::Result<
 }
 
 // Takes the lines after the one that names the bed, and tells whether none was refused.
-fn run_bed<D: Motor + Drop, P: Profile + Drop>(rt: &LibcRuntime, drive: D, profile: P, mut lines: Lines, mut number: u64) -> io::Result<bool> {
+fn run_bed<D: Motor + Drop, P: Profile + Drop>(
+    rt: &LibcRuntime,
+    drive: D,
+    profile: P,
+    mut lines: Lines,
+    mut number: u64,
+) -> io::Result<bool> {
     let mut table = Table::new(drive, profile);
     let mut tally = Tally::new();
     while let Some(text) = lines.next_line() {
@@ -99,8 +126,20 @@ pub fn run(rt: &LibcRuntime, script: &[u8]) -> io::Result<bool> {
             Ok(Line::Blank) => continue,
             Ok(Line::Bed(kind, ProfileKind::Creep)) => {
                 let all = match kind {
-                    DriveKind::Pulse => run_bed(rt, PulseDrive::new(), Creep::new(), lines, number)?,
-                    DriveKind::Phase => run_bed(rt, PhaseDrive::new(), Creep::new(), lines, number)?,
+                    DriveKind::Pulse => run_bed(
+                        rt,
+                        PulseDrive::new(),
+                        Creep::new(),
+                        lines,
+                        number,
+                    )?,
+                    DriveKind::Phase => run_bed(
+                        rt,
+                        PhaseDrive::new(),
+                        Creep::new(),
+                        lines,
+                        number,
+                    )?,
                 };
                 return Ok(all && fine);
             }

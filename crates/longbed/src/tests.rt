@@ -21,11 +21,29 @@ use std::test::*;
 #[test]
 fn lines_before_and_after_the_first_cut() -> Result<(), Fail> {
     let mut table = Table::new(PulseDrive::new(), Creep::new());
-    check_eq(take_text(&mut table, b"at 8388608"), Err(Refusal::NoPosition))?;
-    check_eq(take_text(&mut table, b"at -500 # the first place"), Ok(None))?;
-    check_eq(take_text(&mut table, b"bed pulse creep"), Err(Refusal::SecondBed))?;
-    let report = Report { from: -500, target: -502, to: -502, ticks: 20, steps: 2 };
-    check_eq(take_text(&mut table, b"cut -502 100 300 50 50"), Ok(Some(report)))?;
+    check_eq(
+        take_text(&mut table, b"at 8388608"),
+        Err(Refusal::NoPosition),
+    )?;
+    check_eq(
+        take_text(&mut table, b"at -500 # the first place"),
+        Ok(None),
+    )?;
+    check_eq(
+        take_text(&mut table, b"bed pulse creep"),
+        Err(Refusal::SecondBed),
+    )?;
+    let report = Report {
+        from: -500,
+        target: -502,
+        to: -502,
+        ticks: 20,
+        steps: 2,
+    };
+    check_eq(
+        take_text(&mut table, b"cut -502 100 300 50 50"),
+        Ok(Some(report)),
+    )?;
     check_eq(take_text(&mut table, b"at 0"), Err(Refusal::TooLate))?;
     check_eq(take_text(&mut table, b"tripped"), Err(Refusal::TooLate))?;
     check_eq(table.drive().place(), -502)
@@ -35,9 +53,18 @@ fn lines_before_and_after_the_first_cut() -> Result<(), Fail> {
 fn refused_cuts_move_nothing() -> Result<(), Fail> {
     let mut table = Table::new(PulseDrive::new(), Creep::new());
     check_eq(take_text(&mut table, b"tripped"), Ok(None))?;
-    check_eq(take_text(&mut table, b"cut 5 100 300 50 50"), Err(Refusal::Cut(CutFault::Tripped)))?;
-    check_eq(take_text(&mut table, b"cut 5 100 99 50 50"), Err(Refusal::Cut(CutFault::Speed)))?;
-    check_eq(take_text(&mut table, b"cut 5 100 99 50"), Err(Refusal::Line(LineFault::MissingWord)))?;
+    check_eq(
+        take_text(&mut table, b"cut 5 100 300 50 50"),
+        Err(Refusal::Cut(CutFault::Tripped)),
+    )?;
+    check_eq(
+        take_text(&mut table, b"cut 5 100 99 50 50"),
+        Err(Refusal::Cut(CutFault::Speed)),
+    )?;
+    check_eq(
+        take_text(&mut table, b"cut 5 100 99 50"),
+        Err(Refusal::Line(LineFault::MissingWord)),
+    )?;
     check_eq((table.drive().place(), table.drive().tripped()), (0, true))
 }
 

@@ -11,7 +11,10 @@ use crate::row::RowPartialEq;
 use crate::traits::Profile;
 use std::test::*;
 
-const ONE: Row = Row { steps: 1, speed: 100 };
+const ONE: Row = Row {
+    steps: 1,
+    speed: 100,
+};
 
 fn refusal(start: u32, accel: u32, decel: u32, rows: &[Row]) -> Option<PlanFault> {
     match Plan::new(start, accel, decel, rows) {
@@ -52,7 +55,20 @@ fn plan_bounds_of_its_rows() -> Result<(), Fail> {
 
 #[test]
 fn plan_tells_its_numbers() -> Result<(), Fail> {
-    let rows = [Row { steps: 7, speed: 300 }, Row { steps: 5, speed: 900 }, Row { steps: 3, speed: 200 }];
+    let rows = [
+        Row {
+            steps: 7,
+            speed: 300,
+        },
+        Row {
+            steps: 5,
+            speed: 900,
+        },
+        Row {
+            steps: 3,
+            speed: 200,
+        },
+    ];
     let plan = Plan::new(100, 20, 30, &rows)?;
     check_eq((plan.start(), plan.accel(), plan.decel()), (100, 20, 30))?;
     check_eq((plan.steps(), plan.top()), (15, 900))?;
@@ -63,12 +79,25 @@ fn plan_tells_its_numbers() -> Result<(), Fail> {
 #[test]
 fn creep_goes_at_the_starting_speed() -> Result<(), Fail> {
     let mut creep = Creep::new();
-    creep.begin(Plan::new(300, 50, 50, &[Row { steps: 2, speed: 900 }])?);
+    creep.begin(
+        Plan::new(
+            300,
+            50,
+            50,
+            &[Row {
+                steps: 2,
+                speed: 900,
+            }],
+        )?,
+    );
     let expected = [300, 300, 300, 300, 300, 300, 200, 0];
     for advance in &expected {
         check_eq(creep.tick(), *advance)?;
     }
-    check_eq((creep.gone(), creep.asked(), creep.top()), (2000, 2000, 900))?;
+    check_eq(
+        (creep.gone(), creep.asked(), creep.top()),
+        (2000, 2000, 900),
+    )?;
     check(creep.done())
 }
 
@@ -78,7 +107,17 @@ fn creep_brakes_at_once() -> Result<(), Fail> {
     creep.brake();
     check(creep.done())?;
     check_eq((creep.tick(), creep.top()), (0, 0))?;
-    creep.begin(Plan::new(300, 50, 50, &[Row { steps: 2, speed: 900 }])?);
+    creep.begin(
+        Plan::new(
+            300,
+            50,
+            50,
+            &[Row {
+                steps: 2,
+                speed: 900,
+            }],
+        )?,
+    );
     check(!creep.done())?;
     check_eq((creep.tick(), creep.tick()), (300, 300))?;
     creep.brake();

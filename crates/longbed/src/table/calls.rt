@@ -19,7 +19,11 @@ impl<D: Motor, P: Profile> Table<D, P> {
     pub fn new(drive: D, profile: P) -> Table<D, P>
         ensures { λ r. ⌜ r ≡ record { drive = drive; profile = profile; begun = false } ⌝ }
     {
-        Table { drive, profile, begun: false }
+        Table {
+            drive,
+            profile,
+            begun: false,
+        }
     }
 
     pub fn drive(&self) -> &D

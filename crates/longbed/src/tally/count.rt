@@ -10,7 +10,11 @@ impl Tally {
     pub fn new() -> Tally
         ensures { λ r. ⌜ r ≡ record { refused = 0; asked = 0; arrived = 0 } ⌝ }
     {
-        Tally { refused: 0, asked: 0, arrived: 0 }
+        Tally {
+            refused: 0,
+            asked: 0,
+            arrived: 0,
+        }
     }
 
     // Counts what a line came to.

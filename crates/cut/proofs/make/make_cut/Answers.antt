@@ -74,8 +74,9 @@ returns g c =
     let p′ = g .P·Profile .means (c .run-plan-travel .last .profile) in
     let P : PlanMeans → Type 0 = λ q. Travelled (m g b) p q (c .toward .result) (c .run-plan-travel .result) d′ p′ in
     let Q : Direction → Type 0 = λ w. Travelled (m g b) p (planned (m g b) (c .args .cut)) w (c .run-plan-travel .result) d′ p′ in
-    let f : SFits w32 (c .place .result) = search needs in
-    (passes g (a g b),
-    carried (g .D·Drive .reach) (m g b) (c .args .cut) (g .D·Drive·met .bounded .1) (g .D·Drive·met .placed (c .args .drive .now)) (ok g (a g b)) p (c .run-plan-travel .result) _ d′ p′
-    (subst Q (turn-is g b) (subst P (plan-is g b) (c .run-plan-travel .ensures)))
-    (place-is g (a g b)) (target-is g (a g b)) (toZ-ofZ w32 (c .place .result) f ∙ c .place .ensures) refl refl)
+    let f : SFits w32 (c .place .result) = search needs in (
+      passes g (a g b),
+      carried (g .D·Drive .reach) (m g b) (c .args .cut) (g .D·Drive·met .bounded .1) (g .D·Drive·met .placed (c .args .drive .now)) (ok g (a g b)) p (c .run-plan-travel .result) _ d′ p′
+          (subst Q (turn-is g b) (subst P (plan-is g b) (c .run-plan-travel .ensures)))
+          (place-is g (a g b)) (target-is g (a g b)) (toZ-ofZ w32 (c .place .result) f ∙ c .place .ensures) refl refl,
+    )
