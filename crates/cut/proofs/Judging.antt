@@ -1,23 +1,27 @@
 -- What a cut that is not refused comes to.
-use mathlib.Core.Path.{_≡_, refl, sym, ap, ap₂, subst, _∙_}
+use mathlib.Core.Path.{_≡_, refl, sym, ap, subst, _∙_}
 use mathlib.Core.Bool.{Bool, true, false, cond, not, _||_}
 use mathlib.Core.List.{[], _∷_}
 use Prim.Native.Nat.{ℕ, _+_, _*_, _≤_, _<_}
 use native.Mathlib.Omega.{arith}
 use lib.Dec.{eqb, ltb}
 use lib.IntN.{ℤ, _+ℤ_}
-use Rattle.std.proofs.shelf.Tests.{eqb-false, ltb-false, le-leb}
+use mir.Syntax.{w32}
+use mir.Val.{toZ, ofZ, SFits}
+use Rattle.std.proofs.shelf.Signed.{toZ-ofZ}
+use Rattle.std.proofs.shelf.Tests.{eqb-false, le-leb, ltb-false}
 use Rattle.std.specs.declared.option.Option.{Option}
 use Rattle.std.specs.declared.option.Option.the-variants.{Some, None}
 use Rattle.drive.proofs.Landings.{toward-reaches, distance-near}
 use Rattle.drive.specs.Directions.{signed, toward}
 use Rattle.drive.specs.Drives.{DriveMeans}
+use Rattle.drive.specs.declared.direction.Direction.{Direction}
 use Rattle.drive.specs.Positions.{isPosition, distance}
-use Rattle.profile.specs.Plans.{PlanMeans, Lawful, planSteps}
+use Rattle.profile.specs.Plans.{PlanMeans, Lawful, planSteps, planTop}
 use Rattle.profile.specs.Profiles.{ProfileMeans}
 use Rattle.profile.specs.Ranges.{outside}
 use Rattle.profile.specs.Rows.{stepsOf, topOf, areRows}
-use Rattle.cut.specs.Cuts.{judged, oneRow, planned, Carried}
+use Rattle.cut.specs.Cuts.{judged, blendJudged, blendEnd, oneRow, planned, Carried}
 use Rattle.cut.specs.Travels.{Ready, Travelled}
 use Rattle.cut.specs.declared.fault.CutFault.{CutFault}
 use Rattle.cut.specs.declared.order.Cut.{Cut}
@@ -87,7 +91,7 @@ module _ (g : ℕ) (d : DriveMeans) (c : Cut) (reach : g ≤ 200) (placed : isPo
   unfolding stepsOf
   all-steps = omega arith
 
-  ends-there : d .place +ℤ signed (toward (d .place) (c .target)) (planSteps (planned d c)) ≡ c .target
+  pub ends-there : d .place +ℤ signed (toward (d .place) (c .target)) (planSteps (planned d c)) ≡ c .target
   ends-there = ap (λ k. d .place +ℤ signed (toward (d .place) (c .target)) k) all-steps ∙ toward-reaches (d .place) (c .target)
 
   pub ready : Ready g d (planned d c) (toward (d .place) (c .target))
@@ -96,19 +100,34 @@ module _ (g : ℕ) (d : DriveMeans) (c : Cut) (reach : g ≤ 200) (placed : isPo
       let P : ℤ → Type 0 = λ z. isPosition z ≡ true in
       record { untripped = ok .untripped; slow = omega (arith, ok .speed .1); ends = subst P (sym ends-there) (ok .target) }
 
-  pub carried :
-      (p : ProfileMeans) (t : Travel) (r : Report) (d′ : DriveMeans) (p′ : ProfileMeans) → Travelled d p (planned d c) (toward (d .place) (c .target)) t d′ p′
-      → r .from ≡ d .place → r .target ≡ c .target → r .to ≡ d′ .place → r .ticks ≡ t .ticks → r .steps ≡ t .steps → Carried c d p r d′ p′
-  carried p t r d′ p′ v from target to ticks steps =
-      record {
-        from = from;
-        target = target;
-        to = to ∙ (ap (λ x. x .place) (v .drive) ∙ ends-there);
-        steps = steps ∙ (v .steps ∙ all-steps);
-        begun = v .begun;
-        begins = v .begins;
-        ticks = ticks ∙ v .ticks;
-        in-time = omega (arith, ticks, v .ticks, v .begins .soon);
-        drive = v .drive ∙ ap₂ (λ z b. record { place = z; tripped = b }) ends-there (sym (ok .untripped));
-        profile = v .profile ∙ ap (λ k. record { plan = Some (planned d c); asked = 1000 * k; gone = 1000 * k; left = 0; lag = p .lag }) all-steps;
-      }
+pub carried :
+    (plan : PlanMeans) (way : Direction) (d : DriveMeans) (p : ProfileMeans) (t : Travel) (r : Report) (d′ : DriveMeans) (p′ : ProfileMeans) → d .tripped ≡ false → Travelled d p plan way t d′ p′
+    → r .from ≡ d .place → r .target ≡ blendEnd d plan way → r .to ≡ d′ .place → r .ticks ≡ t .ticks → r .steps ≡ t .steps → r .peak ≡ t .peak
+    → Carried plan (blendEnd d plan way) d p r d′ p′
+carried plan way d p t r d′ p′ untripped v from sent to ticks steps peak =
+    record {
+      from = from;
+      sent = sent;
+      to = to ∙ ap (λ x. x .place) (v .drive);
+      steps = steps ∙ v .steps;
+      begun = v .begun;
+      begins = v .begins;
+      advances = v .advances;
+      ticked = v .ticked;
+      peak = peak ∙ v .peak;
+      ticks = ticks ∙ v .ticks;
+      in-time = omega (arith, ticks, v .ticks, v .begins .soon);
+      drive = v .drive ∙ ap (λ b. record { place = blendEnd d plan way; tripped = b }) (sym untripped);
+      profile = v .profile;
+    }
+
+pub blend-ready : (g : ℕ) (d : DriveMeans) (plan : PlanMeans) (way : Direction) → blendJudged g d plan way ≡ None → Ready g d plan way
+blend-ready g d plan way h =
+    let q₁ = passed _ _ _ h in
+    let q₂ = passed _ _ _ (q₁ .1) in
+    let q₃ = passed _ _ _ (q₂ .1) in
+    record { untripped = q₂ .0; slow = ltb-false (1000 * g) (planTop plan) (q₁ .0); ends = holds _ (q₃ .0) }
+
+-- a place read from the drive is a position
+pub placed-as : (z d : ℤ) → SFits w32 z → z ≡ d → isPosition d ≡ true → isPosition (toZ w32 (ofZ w32 z)) ≡ true
+placed-as z d f e p = ap isPosition (toZ-ofZ w32 z f ∙ e) ∙ p

@@ -1,8 +1,9 @@
 -- A plan on its way.
 use mathlib.Core.Path.{_≡_, refl, sym, ap, ap₂, subst, _∙_}
 use mathlib.Core.Bool.{true, false}
+use mathlib.Core.List.{List, [], _∷_, _++_}
 use mathlib.Core.Logic.{⊎-elim}
-use Prim.Native.Nat.{ℕ, _+_, _-_, _*_, _/_, _≤_, _<_, min}
+use Prim.Native.Nat.{ℕ, _+_, _-_, _*_, _/_, _≤_, _<_, min, max}
 use native.Mathlib.Omega.{arith}
 use lib.Dec.{leb, ltb}
 use lib.IntN.{ℤ, pos, natAbs, _+ℤ_}
@@ -20,16 +21,24 @@ use Rattle.drive.specs.declared.fault.DriveFault.{DriveFault}
 use Rattle.drive.specs.declared.direction.Direction.{Direction}
 use Rattle.profile.specs.Plans.{PlanMeans, planSteps, planTop}
 use Rattle.profile.specs.Profiles.{ProfileMeans, Sound, Begun, Ticked, fastest}
-use Rattle.cut.specs.Travels.{Ready, Travelled}
+use Rattle.cut.specs.Travels.{Ready, Ticks, greatest, Travelled}
 use Rattle.cut.specs.declared.travel.Travel.{Travel}
 
--- so many ticks and steps after a drive set out from a place, with a profile that began as `first`
-pub record Rolling (way : Direction) (from : ℤ) (first : ProfileMeans) (d : DriveMeans) (p : ProfileMeans) (t s : ℕ) : Type 0 where
+-- so many ticks and steps, with the peak k, after a drive set out from a place, with a profile that began as `first`
+pub record Rolling (way : Direction) (from : ℤ) (first : ProfileMeans) (d : DriveMeans) (p : ProfileMeans) (t s k : ℕ) : Type 0 where
   pub drive : d ≡ record { place = from +ℤ signed way (p .gone / 1000); tripped = false }
   pub profile : p ≡ record { plan = first .plan; asked = first .asked; gone = p .gone; left = p .left; lag = first .lag }
   pub fewer : p .left ≤ first .left
   pub ticks : t ≡ min (first .left - p .left) 18446744073709551615
   pub steps : s ≡ p .gone / 1000
+  pub advances : List ℕ
+  pub ticked : Ticks first advances p
+  pub peak : k ≡ greatest advances
+
+-- one more advance
+greatest-more : (us : List ℕ) (u : ℕ) → greatest (us ++ u ∷ []) ≡ max u (greatest us)
+greatest-more [] u = refl
+greatest-more (w ∷ us) u = omega (arith, greatest-more us u)
 
 -- a drive sets out along a plan that it takes whole, and that its profile has begun
 pub record Departure (g : ℕ) (way : Direction) (d₀ : DriveMeans) (plan : PlanMeans) (p₀ first : ProfileMeans) : Type 0 where
@@ -38,14 +47,14 @@ pub record Departure (g : ℕ) (way : Direction) (d₀ : DriveMeans) (plan : Pla
   pub begun : Begun p₀ plan first
 
 -- one tick on the way
-pub record Turn (way : Direction) (from : ℤ) (first : ProfileMeans) (d : DriveMeans) (p p′ : ProfileMeans) (t s r : ℕ) : Type 0 where
-  pub roll : Rolling way from first d p t s
+pub record Turn (way : Direction) (from : ℤ) (first : ProfileMeans) (d : DriveMeans) (p p′ : ProfileMeans) (t s k r : ℕ) : Type 0 where
+  pub roll : Rolling way from first d p t s k
   pub ticked : Ticked p r p′
   pub sound : Sound p′
 
 module _ {g : ℕ} {way : Direction} {d₀ : DriveMeans} {plan : PlanMeans} {p₀ first : ProfileMeans} (o : Departure g way d₀ plan p₀ first) where
   -- at its begin
-  pub sets-out : Rolling way (d₀ .place) first d₀ first 0 0
+  pub sets-out : Rolling way (d₀ .place) first d₀ first 0 0 0
   sets-out =
       let none : first .gone / 1000 ≡ 0 = rw (ap (λ x. x .gone) (o .begun .after)) refl in
       record {
@@ -56,9 +65,12 @@ module _ {g : ℕ} {way : Direction} {d₀ : DriveMeans} {plan : PlanMeans} {p�
         fewer = omega arith;
         ticks = omega arith;
         steps = sym none;
+        advances = [];
+        ticked = Ticks.none;
+        peak = refl;
       }
 
-  module _ {d : DriveMeans} {p p′ : ProfileMeans} {t s r : ℕ} (u : Turn way (d₀ .place) first d p p′ t s r) where
+  module _ {d : DriveMeans} {p p′ : ProfileMeans} {t s k r : ℕ} (u : Turn way (d₀ .place) first d p p′ t s k r) where
     abbrev due : ℕ
     due = p′ .gone / 1000 - p .gone / 1000
 
@@ -112,10 +124,10 @@ module _ {g : ℕ} {way : Direction} {d₀ : DriveMeans} {plan : PlanMeans} {p�
 
     -- one turn on
     pub goes-on :
-        (n : ℤ) (d′ : DriveMeans) (t′ s′ : ℕ) → (p .left ≡ 0 → ⊥) → n ≡ signed way due
+        (n : ℤ) (d′ : DriveMeans) (t′ s′ k′ : ℕ) → (p .left ≡ 0 → ⊥) → n ≡ signed way due
         → d′ ≡ record { place = d₀ .place +ℤ signed way (p′ .gone / 1000); tripped = false }
-        → t′ ≡ min (t + 1) 18446744073709551615 → s′ ≡ s + natAbs n → Rolling way (d₀ .place) first d′ p′ t′ s′
-    goes-on n d′ t′ s′ some e there time gained =
+        → t′ ≡ min (t + 1) 18446744073709551615 → s′ ≡ s + natAbs n → k′ ≡ max r k → Rolling way (d₀ .place) first d′ p′ t′ s′ k′
+    goes-on n d′ t′ s′ k′ some e there time gained most =
         let fall : p′ .left ≡ p .left - 1 = ap (λ x. x .left) (u .ticked .after) in
         record {
           drive = there;
@@ -124,13 +136,16 @@ module _ {g : ℕ} {way : Direction} {d₀ : DriveMeans} {plan : PlanMeans} {p�
           fewer = omega (arith, u .roll .fewer);
           ticks = omega (arith, u .roll .fewer, u .roll .ticks, some);
           steps = omega (arith, gained, u .roll .steps, ap natAbs e, natAbs-signed way due, later);
+          advances = u .roll .advances ++ r ∷ [];
+          ticked = Ticks.more (u .roll .ticked) (u .ticked);
+          peak = most ∙ (ap (max r) (u .roll .peak) ∙ sym (greatest-more (u .roll .advances) r));
         }
 
     pub fits : (n : ℤ) → n ≡ signed way due → s + natAbs n ≤ 16777214
     fits n e = omega (arith, u .roll .steps, ap natAbs e, natAbs-signed way due, later, u .sound .reached, u .sound .near)
 
   -- at its end
-  pub ends : (d : DriveMeans) (p : ProfileMeans) (r : Travel) → Rolling way (d₀ .place) first d p (r .ticks) (r .steps) → Sound p → p .left ≡ 0 → Travelled d₀ p₀ plan way r d p
+  pub ends : (d : DriveMeans) (p : ProfileMeans) (r : Travel) → Rolling way (d₀ .place) first d p (r .ticks) (r .steps) (r .peak) → Sound p → p .left ≡ 0 → Travelled d₀ p₀ plan way r d p
   ends d p r roll sound none =
       let asked : p .asked ≡ 1000 * planSteps plan = ap (λ x. x .asked) (roll .profile) ∙ ap (λ x. x .asked) (o .begun .after) in
       let gone : p .gone ≡ 1000 * planSteps plan = sound .done none ∙ asked in
@@ -138,6 +153,9 @@ module _ {g : ℕ} {way : Direction} {d₀ : DriveMeans} {plan : PlanMeans} {p�
       record {
         begun = first;
         begins = o .begun;
+        advances = roll .advances;
+        ticked = roll .ticked;
+        peak = roll .peak;
         ticks = omega (arith, roll .ticks, none);
         steps = roll .steps ∙ whole;
         drive = roll .drive ∙ ap (λ k. record { place = d₀ .place +ℤ signed way k; tripped = false }) whole;

@@ -5,3 +5,4 @@ pub mod order;
 #[cfg(test)]
 mod tests;
 mod travel;
+pub mod watch;

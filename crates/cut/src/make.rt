@@ -1,14 +1,18 @@
 // A cut is judged first, which changes nothing, and then made.
 ghost use mathlib.Core.Path.{_≡_};
+ghost use mathlib.Core.Bool.{true};
 ghost use Prim.Native.Nat.{_≤_};
-ghost use Rattle.std.specs.Results.{Cases};
-ghost use Rattle.std.specs.declared.option.Option.the-variants.{Some, None};
+ghost use lib.IntN.{_+ℤ_};
+ghost use Rattle.drive.specs.Directions.{signed};
+ghost use Rattle.drive.specs.Positions.{isPosition};
 ghost use Rattle.profile.specs.Plans.{Lawful, planMeans};
-ghost use Rattle.cut.specs.Cuts.{judged, oneRow, Carried};
+ghost use Rattle.cut.specs.Cuts.{judged, blendJudged, blendEnd, oneRow, planned, Carried, Answered};
+ghost use Rattle.cut.specs.Travels.{Ready};
 use crate::fault::CutFault;
 use crate::order::Cut;
 use crate::order::Report;
 use crate::travel::run_plan;
+use crate::watch::Watch;
 use drive::direction::Direction;
 use drive::position::distance;
 use drive::position::is_position;
@@ -47,6 +51,33 @@ fn judge(reach: u32, place: i32, tripped: bool, cut: Cut) -> Option<CutFault>
     None
 }
 
+// Where so many steps lead.
+fn end_of(from: i32, steps: u32, direction: Direction) -> i32
+    requires placed { ⌜ isPosition from ≡ true ⌝ }
+    requires near { ⌜ steps ≤ 16777214 ⌝ }
+    ensures { λ r. ⌜ r ≡ from +ℤ signed direction steps ⌝ }
+{
+    from + direction.signed(steps as u64)
+}
+
+// The first reason to refuse a blend from `place`, over a drive that goes `reach` steps at once.
+fn judge_blend(reach: u32, place: i32, tripped: bool, plan: &Plan, direction: Direction) -> Option<CutFault>
+    requires reach { ⌜ reach ≤ 200 ⌝ }
+    requires placed { ⌜ isPosition place ≡ true ⌝ }
+    ensures { λ r. ⌜ r ≡ blendJudged reach (record { place = place; tripped = tripped }) (planMeans (now (plan .entry))) direction ⌝ }
+{
+    if plan.top() > 1000 * reach {
+        return Some(CutFault::Speed);
+    }
+    if tripped {
+        return Some(CutFault::Tripped);
+    }
+    if !is_position(end_of(place, plan.steps(), direction)) {
+        return Some(CutFault::Target);
+    }
+    None
+}
+
 // The plan of a cut that is not refused.
 fn plan_of(cut: Cut, steps: u32) -> Plan
     requires { ⌜ Lawful (oneRow cut steps) ⌝ }
@@ -62,28 +93,61 @@ fn plan_of(cut: Cut, steps: u32) -> Plan
     plan
 }
 
+// Carries out a plan that the drive takes.
+fn carry<D: Drive, P: Profile, W: Watch>(
+    drive: &mut D,
+    profile: &mut P,
+    plan: Plan,
+    direction: Direction,
+    watch: &mut W,
+) -> Report
+    requires { ⌜ Ready (D·Drive .reach) (D·Drive .means (now drive)) (planMeans plan) direction ⌝ }
+    ensures { λ r. ⌜ Carried (planMeans plan) (blendEnd (D·Drive .means (now (drive .entry))) (planMeans plan) direction) (D·Drive .means (now (drive .entry))) (P·Profile .means (now (profile .entry))) r (D·Drive .means (now (drive .exit))) (P·Profile .means (now (profile .exit))) ⌝ }
+{
+    let from = drive.place();
+    let target = end_of(from, plan.steps(), direction);
+    let travel = run_plan(drive, profile, plan, direction, watch);
+    Report {
+        from,
+        target,
+        to: drive.place(),
+        ticks: travel.ticks,
+        steps: travel.steps,
+        peak: travel.peak,
+    }
+}
+
 // Makes a cut, or refuses it and changes nothing.
-pub fn make_cut<D: Drive, P: Profile>(
+pub fn make_cut<D: Drive, P: Profile, W: Watch>(
     drive: &mut D,
     profile: &mut P,
     cut: Cut,
+    watch: &mut W,
 ) -> Result<Report, CutFault>
-    ensures { λ r. ⌜ Cases r (λ report. (judged (D·Drive .reach) (D·Drive .means (now (drive .entry))) cut ≡ None)
-        × Carried cut (D·Drive .means (now (drive .entry))) (P·Profile .means (now (profile .entry))) report (D·Drive .means (now (drive .exit))) (P·Profile .means (now (profile .exit))))
-        (λ fault. (judged (D·Drive .reach) (D·Drive .means (now (drive .entry))) cut ≡ Some fault)
-        × (now (drive .exit) ≡ now (drive .entry)) × (now (profile .exit) ≡ now (profile .entry))) ⌝ }
+    ensures { λ r. ⌜ Answered (D·Drive .means) (P·Profile .means) (judged (D·Drive .reach) (D·Drive .means (now (drive .entry))) cut) (planned (D·Drive .means (now (drive .entry))) cut) (cut .target) (now (drive .entry)) (now (profile .entry)) r (now (drive .exit)) (now (profile .exit)) ⌝ }
 {
     let from = drive.place();
     if let Some(fault) = judge(D::reach(), from, drive.tripped(), cut) {
         return Err(fault);
     }
+    let direction = Direction::toward(from, cut.target);
     let plan = plan_of(cut, distance(from, cut.target));
-    let travel = run_plan(drive, profile, plan, Direction::toward(from, cut.target));
-    Ok(Report {
-        from,
-        target: cut.target,
-        to: drive.place(),
-        ticks: travel.ticks,
-        steps: travel.steps,
-    })
+    Ok(carry(drive, profile, plan, direction, watch))
+}
+
+// Makes a blend, a plan in one direction, or refuses it and changes nothing.
+pub fn make_blend<D: Drive, P: Profile, W: Watch>(
+    drive: &mut D,
+    profile: &mut P,
+    plan: Plan,
+    direction: Direction,
+    watch: &mut W,
+) -> Result<Report, CutFault>
+    ensures { λ r. ⌜ Answered (D·Drive .means) (P·Profile .means) (blendJudged (D·Drive .reach) (D·Drive .means (now (drive .entry))) (planMeans plan) direction) (planMeans plan) (blendEnd (D·Drive .means (now (drive .entry))) (planMeans plan) direction) (now (drive .entry)) (now (profile .entry)) r (now (drive .exit)) (now (profile .exit)) ⌝ }
+{
+    let from = drive.place();
+    if let Some(fault) = judge_blend(D::reach(), from, drive.tripped(), &plan, direction) {
+        return Err(fault);
+    }
+    Ok(carry(drive, profile, plan, direction, watch))
 }

@@ -10,7 +10,7 @@ pub struct Cut {
     pub decel: u32,
 }
 
-// Where a cut began, where it was sent and where it ended, and the ticks and steps that it took.
+// Where a cut began, where it was sent and where it ended, the ticks and steps that it took, and its greatest advance in a tick.
 #[derive(Clone, Copy, PartialEq, Eq, Debug)]
 pub struct Report {
     pub from: i32,
@@ -18,4 +18,5 @@ pub struct Report {
     pub to: i32,
     pub ticks: u64,
     pub steps: u32,
+    pub peak: u32,
 }

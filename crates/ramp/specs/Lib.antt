@@ -1,0 +1,5 @@
+pub mod Advances
+pub mod Braking
+pub mod Ramping
+pub mod Ramps
+pub mod Speeds

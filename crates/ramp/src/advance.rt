@@ -1,0 +1,40 @@
+// The advance of a tick.
+ghost use Prim.Native.Nat.{_+_, _<_, _≤_};
+ghost use Rattle.profile.specs.Plans.{planMeans};
+ghost use Rattle.ramp.specs.Advances.{Greatest, May};
+ghost use Rattle.ramp.specs.Braking.{braking};
+ghost use Rattle.ramp.specs.Speeds.{speedAt};
+use crate::braking::braking_sum;
+use crate::speed::speed_at;
+use profile::plan::Plan;
+
+// The greatest advance that may be with `gone` millisteps behind, `rest` to go and the advance `last` before.
+pub(crate) fn next_advance(plan: &Plan, gone: u64, rest: u64, last: u32) -> u32
+    requires { ⌜ last ≤ 200000 ⌝ }
+    ensures { λ r. ⌜ Greatest (May (planMeans (now (plan .entry)) .start) (planMeans (now (plan .entry)) .accel) (planMeans (now (plan .entry)) .decel) (speedAt (planMeans (now (plan .entry)) .rows) gone) last rest) r ⌝ }
+{
+    let start = plan.start();
+    let decel = plan.decel();
+    let slow = speed_at(plan.rows(), gone).max(last.saturating_sub(decel));
+    let eased = start.max(last + plan.accel());
+    greatest_speed(start, decel, slow.min(eased), rest)
+}
+
+// The greatest speed up to `limit` that goes, with its braking distance, at most `rest` millisteps. A limit is below 2 to the
+// 18, so 18 halvings leave one speed.
+fn greatest_speed(start: u32, decel: u32, limit: u32, rest: u64) -> u32
+    requires { ⌜ 0 < decel ⌝ ∗ ⌜ limit ≤ 200000 ⌝ }
+    ensures { λ r. ⌜ Greatest (λ u. (u ≤ limit) × (u + braking start decel u ≤ rest)) r ⌝ }
+{
+    let mut low = 0;
+    let mut high = limit;
+    for _turn in 0..18u32 {
+        let middle = low + (high - low + 1) / 2;
+        if middle as u64 + braking_sum(start, decel, middle) <= rest {
+            low = middle;
+        } else {
+            high = middle - 1;
+        }
+    }
+    low
+}
