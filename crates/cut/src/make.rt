@@ -61,7 +61,13 @@ fn end_of(from: i32, steps: u32, direction: Direction) -> i32
 }
 
 // The first reason to refuse a blend from `place`, over a drive that goes `reach` steps at once.
-fn judge_blend(reach: u32, place: i32, tripped: bool, plan: &Plan, direction: Direction) -> Option<CutFault>
+fn judge_blend(
+    reach: u32,
+    place: i32,
+    tripped: bool,
+    plan: &Plan,
+    direction: Direction,
+) -> Option<CutFault>
     requires reach { ⌜ reach ≤ 200 ⌝ }
     requires placed { ⌜ isPosition place ≡ true ⌝ }
     ensures { λ r. ⌜ r ≡ blendJudged reach (record { place = place; tripped = tripped }) (planMeans (now (plan .entry))) direction ⌝ }

@@ -52,9 +52,7 @@ pub(crate) fn run_plan<D: Drive, P: Profile, W: Watch>(
     let mut peak = 0;
     while !profile.done() {
         let (advance, sent) = tick_once(drive, profile, direction);
-        let Ok(n) = sent else {
-            unreachable()
-        };
+        let Ok(n) = sent else { unreachable() };
         watch.tell(advance);
         peak = advance.max(peak);
         steps += n.unsigned_abs();

@@ -12,7 +12,17 @@ use smoothing::smoothed::SmoothedIsProfile;
 use std::test::*;
 
 fn two_steps() -> Result<Plan, Fail> {
-    Ok(Plan::new(100, 100, 100, &[Row { steps: 2, speed: 300 }])?)
+    Ok(
+        Plan::new(
+            100,
+            100,
+            100,
+            &[Row {
+                steps: 2,
+                speed: 300,
+            }],
+        )?,
+    )
 }
 
 #[test]
@@ -33,7 +43,20 @@ fn smoothed_over_four_ticks() -> Result<(), Fail> {
     let mut smoothed = Smoothed::new(Ramp::new(), 4);
     check(size_of::<Smoothed<Ramp>>() < 1024)?;
     smoothed.begin(two_steps()?);
-    for gone in &[25, 100, 250, 475, 750, 1050, 1341, 1599, 1799, 1924, 1983, 2000] {
+    for gone in &[
+        25,
+        100,
+        250,
+        475,
+        750,
+        1050,
+        1341,
+        1599,
+        1799,
+        1924,
+        1983,
+        2000,
+    ] {
         check(!smoothed.done())?;
         let _ = smoothed.tick();
         check_eq(smoothed.gone(), *gone)?;

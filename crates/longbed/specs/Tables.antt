@@ -3,18 +3,22 @@ use mathlib.Core.Path.{_≡_}
 use mathlib.Core.Bool.{Bool, true}
 use Prim.Native.Nat.{ℕ}
 use lib.IntN.{ℤ}
+use lib.ListN.{take}
 use Rattle.std.specs.Options.{Cases}
 use Rattle.std.specs.Orderings.{When}
 use Rattle.std.specs.declared.option.Option.{Option}
 use Rattle.std.specs.declared.option.Option.the-variants.{Some, None}
 use Rattle.std.specs.declared.result.Result.{Result}
 use Rattle.std.specs.declared.result.Result.the-variants.{Ok, Err}
-use Rattle.cut.specs.Cuts.{judged, Carried}
+use Rattle.cut.specs.Cuts.{judged, planned, blendJudged, blendEnd, Carried}
+use Rattle.cut.specs.declared.fault.CutFault.{CutFault}
 use Rattle.cut.specs.declared.order.Cut.{Cut}
 use Rattle.cut.specs.declared.order.Report.{Report}
 use Rattle.drive.specs.Drives.{DriveMeans, withTrip}
 use Rattle.drive.specs.Positions.{isPosition}
+use Rattle.profile.specs.Plans.{PlanMeans, planFault}
 use Rattle.profile.specs.Profiles.{ProfileMeans}
+use Rattle.script.specs.declared.line.BlendLine.{BlendLine}
 use Rattle.script.specs.declared.line.CutLine.{CutLine}
 use Rattle.script.specs.declared.line.Line.{Line}
 use Rattle.script.specs.declared.line.Line.the-variants as line
@@ -39,10 +43,18 @@ Declined m why r m′ = (r ≡ Err why) × (m′ ≡ m)
 abbrev pub Prepared : TableMeans → DriveMeans → Result (Option Report) Refusal → TableMeans → Type 0
 Prepared m d r m′ = (r ≡ Ok None) × (m′ ≡ record { drive = d; profile = m .profile; begun = m .begun })
 
--- a cut is made and told, or refused with its cause, and nothing moves
-pub record Cutting (g : ℕ) (m : TableMeans) (c : Cut) (r : Result (Option Report) Refusal) (m′ : TableMeans) : Type 0 where
-  pub refused : (e : _) → judged g (m .drive) c ≡ Some e → (r ≡ Err (refusal.Cut e)) × (m′ ≡ record { drive = m .drive; profile = m .profile; begun = true })
-  pub made : judged g (m .drive) c ≡ None → (report : Report) × (r ≡ Ok (Some report)) × Carried c (m .drive) (m .profile) report (m′ .drive) (m′ .profile)
+-- the plan that a blend asks for
+abbrev pub planOf : BlendLine → PlanMeans
+planOf b = record { start = b .start; accel = b .accel; decel = b .decel; rows = take (b .count) (b .rows) }
+
+-- refused, and nothing moves; but a cut has come
+abbrev pub Stayed : TableMeans → Refusal → Result (Option Report) Refusal → TableMeans → Type 0
+Stayed m why r m′ = (r ≡ Err why) × (m′ ≡ record { drive = m .drive; profile = m .profile; begun = true })
+
+-- a plan to a target, with a verdict on it: it is carried out and told, or refused with its cause, and nothing moves
+pub record Moving (verdict : Option CutFault) (plan : PlanMeans) (target : ℤ) (m : TableMeans) (r : Result (Option Report) Refusal) (m′ : TableMeans) : Type 0 where
+  pub refused : (why : CutFault) → verdict ≡ Some why → Stayed m (refusal.Cut why) r m′
+  pub made : verdict ≡ None → (report : Report) × (r ≡ Ok (Some report)) × Carried plan target (m .drive) (m .profile) report (m′ .drive) (m′ .profile)
   pub begun : m′ .begun ≡ true
 
 -- what a line makes of a table that means m, over a drive that goes at most g steps at once
@@ -53,4 +65,8 @@ Taken g m (line.At p) r m′ =
     When (m .begun) (Declined m refusal.TooLate r m′)
     (When (isPosition p) (Prepared m (record { place = p; tripped = m .drive .tripped }) r m′) (Declined m refusal.NoPosition r m′))
 Taken g m line.Tripped r m′ = When (m .begun) (Declined m refusal.TooLate r m′) (Prepared m (withTrip (m .drive) true) r m′)
-Taken g m (line.Cut c) r m′ = Cutting g m (cutOf c) r m′
+Taken g m (line.Cut c) r m′ = Moving (judged g (m .drive) (cutOf c)) (planned (m .drive) (cutOf c)) (c .target) m r m′
+Taken g m (line.Blend b) r m′ =
+    Cases (planFault (planOf b))
+    (Moving (blendJudged g (m .drive) (planOf b) (b .direction)) (planOf b) (blendEnd (m .drive) (planOf b) (b .direction)) m r m′)
+    (λ why. Stayed m (refusal.Plan why) r m′)

@@ -19,9 +19,10 @@ more n = min (n + 1) 18446744073709551615
 abbrev pub arrivals : ℕ → Report → ℕ
 arrivals n r = cond (eqb (distance (r .to) (r .target)) 0) (more n) n
 
--- a refused line; only a cut that could be read counts as asked for
+-- a refused line; only a cut or a blend that could be read counts as asked for
 abbrev pub declined : Tally → Refusal → Tally
 declined t (refusal.Cut why) = record { refused = more (t .refused); asked = more (t .asked); arrived = t .arrived }
+declined t (refusal.Plan why) = record { refused = more (t .refused); asked = more (t .asked); arrived = t .arrived }
 declined t (refusal.Line why) = record { refused = more (t .refused); asked = t .asked; arrived = t .arrived }
 declined t refusal.NoBed = record { refused = more (t .refused); asked = t .asked; arrived = t .arrived }
 declined t refusal.SecondBed = record { refused = more (t .refused); asked = t .asked; arrived = t .arrived }

@@ -2,6 +2,9 @@
 use cut::fault::CutFault;
 use cut::fault::CutFaultDebug;
 use cut::fault::CutFaultPartialEq;
+use profile::fault::PlanFault;
+use profile::fault::PlanFaultDebug;
+use profile::fault::PlanFaultPartialEq;
 use script::line::LineFault;
 use script::line::LineFaultDebug;
 use script::line::LineFaultPartialEq;
@@ -19,15 +22,19 @@ pub enum Refusal {
     TooLate,
     // The place is no position.
     NoPosition,
-    // The cut cannot be made.
+    // The cut or the blend cannot be made.
     Cut(CutFault),
+    // The numbers of a blend make no plan.
+    Plan(PlanFault),
 }
 
 fn line_text(fault: LineFault) -> &'static str {
     match fault {
-        LineFault::UnknownCommand => "unknown command (bed, at, tripped or cut)",
+        LineFault::UnknownCommand => "unknown command (bed, at, tripped, cut or blend)",
         LineFault::UnknownDrive => "unknown drive (pulse or phase)",
-        LineFault::UnknownProfile => "unknown profile (creep)",
+        LineFault::UnknownProfile =>
+            "unknown profile (creep, ramp, or one of them after at most two smooth LENGTH)",
+        LineFault::UnknownDirection => "unknown direction (cw or ccw)",
         LineFault::MissingWord => "a word is missing",
         LineFault::ExtraWord => "a word too many",
         LineFault::NotANumber => "not a number that can stand here",
@@ -48,6 +55,17 @@ fn cut_text(fault: CutFault) -> &'static str {
     }
 }
 
+fn plan_text(fault: PlanFault) -> &'static str {
+    match fault {
+        PlanFault::Start => "the starting speed is 0",
+        PlanFault::Acceleration => "the acceleration is out of range (1 to 5000)",
+        PlanFault::Deceleration => "the deceleration is out of range (1 to 5000)",
+        PlanFault::RowCount => "a blend has 1 to 16 rows",
+        PlanFault::Row => "a row has no step, or a speed out of range (starting speed to 200000)",
+        PlanFault::Length => "the rows have more than 16777214 steps",
+    }
+}
+
 impl Refusal {
     pub fn text(self) -> &'static str {
         match self {
@@ -57,6 +75,7 @@ impl Refusal {
             Refusal::TooLate => "only before the first cut",
             Refusal::NoPosition => "the place is no position (-8388607 to 8388607)",
             Refusal::Cut(fault) => cut_text(fault),
+            Refusal::Plan(fault) => plan_text(fault),
         }
     }
 }

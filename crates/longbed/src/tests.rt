@@ -10,6 +10,8 @@ use cut::fault::CutFault;
 use cut::order::Report;
 use cut::order::ReportDebug;
 use cut::order::ReportPartialEq;
+use cut::watch::Unwatched;
+use cut::watch::UnwatchedIsWatch;
 use drive::pulse::PulseDrive;
 use drive::pulse::PulseIsDrive;
 use drive::traits::Drive;
@@ -22,15 +24,15 @@ use std::test::*;
 fn lines_before_and_after_the_first_cut() -> Result<(), Fail> {
     let mut table = Table::new(PulseDrive::new(), Creep::new());
     check_eq(
-        take_text(&mut table, b"at 8388608"),
+        take_text(&mut table, b"at 8388608", &mut Unwatched),
         Err(Refusal::NoPosition),
     )?;
     check_eq(
-        take_text(&mut table, b"at -500 # the first place"),
+        take_text(&mut table, b"at -500 # the first place", &mut Unwatched),
         Ok(None),
     )?;
     check_eq(
-        take_text(&mut table, b"bed pulse creep"),
+        take_text(&mut table, b"bed pulse creep", &mut Unwatched),
         Err(Refusal::SecondBed),
     )?;
     let report = Report {
@@ -39,30 +41,37 @@ fn lines_before_and_after_the_first_cut() -> Result<(), Fail> {
         to: -502,
         ticks: 20,
         steps: 2,
+        peak: 100,
     };
     check_eq(
-        take_text(&mut table, b"cut -502 100 300 50 50"),
+        take_text(&mut table, b"cut -502 100 300 50 50", &mut Unwatched),
         Ok(Some(report)),
     )?;
-    check_eq(take_text(&mut table, b"at 0"), Err(Refusal::TooLate))?;
-    check_eq(take_text(&mut table, b"tripped"), Err(Refusal::TooLate))?;
+    check_eq(
+        take_text(&mut table, b"at 0", &mut Unwatched),
+        Err(Refusal::TooLate),
+    )?;
+    check_eq(
+        take_text(&mut table, b"tripped", &mut Unwatched),
+        Err(Refusal::TooLate),
+    )?;
     check_eq(table.drive().place(), -502)
 }
 
 #[test]
 fn refused_cuts_move_nothing() -> Result<(), Fail> {
     let mut table = Table::new(PulseDrive::new(), Creep::new());
-    check_eq(take_text(&mut table, b"tripped"), Ok(None))?;
+    check_eq(take_text(&mut table, b"tripped", &mut Unwatched), Ok(None))?;
     check_eq(
-        take_text(&mut table, b"cut 5 100 300 50 50"),
+        take_text(&mut table, b"cut 5 100 300 50 50", &mut Unwatched),
         Err(Refusal::Cut(CutFault::Tripped)),
     )?;
     check_eq(
-        take_text(&mut table, b"cut 5 100 99 50 50"),
+        take_text(&mut table, b"cut 5 100 99 50 50", &mut Unwatched),
         Err(Refusal::Cut(CutFault::Speed)),
     )?;
     check_eq(
-        take_text(&mut table, b"cut 5 100 99 50"),
+        take_text(&mut table, b"cut 5 100 99 50", &mut Unwatched),
         Err(Refusal::Line(LineFault::MissingWord)),
     )?;
     check_eq((table.drive().place(), table.drive().tripped()), (0, true))
@@ -70,8 +79,8 @@ fn refused_cuts_move_nothing() -> Result<(), Fail> {
 
 #[test]
 fn scripts_tell_whether_a_line_was_refused(rt: LibcRuntime) -> Result<(), Fail> {
-    check(run(&rt, b"bed pulse creep\ncut 2 100 300 50 50\n")?)?;
-    check(!run(&rt, b"bed pulse creep\ncut 0 100 300 50 50\n")?)?;
-    check(!run(&rt, b"at 5\nbed pulse creep\n")?)?;
-    check(!run(&rt, b"# nothing\n")?)
+    check(run(&rt, b"bed pulse creep\ncut 2 100 300 50 50\n", false)?)?;
+    check(!run(&rt, b"bed pulse creep\ncut 0 100 300 50 50\n", false)?)?;
+    check(!run(&rt, b"at 5\nbed pulse creep\n", false)?)?;
+    check(!run(&rt, b"# nothing\n", false)?)
 }

@@ -2,16 +2,20 @@
 ghost use mathlib.Core.Path.{_≡_};
 ghost use mathlib.Core.Bool.{true, false};
 ghost use Rattle.longbed.specs.TableMeaning.{tableMeans};
-ghost use Rattle.longbed.specs.Tables.{Taken, Cutting, cutOf};
+ghost use Rattle.longbed.specs.Tables.{Taken};
 ghost use Rattle.script.specs.declared.line.Line.the-variants as line;
 use super::Table;
 use crate::motor::Motor;
 use crate::refusal::Refusal;
+use cut::make::make_blend;
 use cut::make::make_cut;
 use cut::order::Cut;
 use cut::order::Report;
+use cut::watch::Watch;
 use drive::traits::Drive;
+use profile::plan::Plan;
 use profile::traits::Profile;
+use script::line::BlendLine;
 use script::line::CutLine;
 use script::line::Line;
 
@@ -56,8 +60,8 @@ impl<D: Motor, P: Profile> Table<D, P> {
         Ok(None)
     }
 
-    fn cut(&mut self, asked: CutLine) -> Result<Option<Report>, Refusal>
-        ensures { λ r. ⌜ Cutting (D·Drive .reach) (tableMeans (D·Drive .means) (P·Profile .means) (now (self .entry))) (cutOf asked) r (tableMeans (D·Drive .means) (P·Profile .means) (now (self .exit))) ⌝ }
+    fn cut<W: Watch>(&mut self, asked: CutLine, watch: &mut W) -> Result<Option<Report>, Refusal>
+        ensures { λ r. ⌜ Taken (D·Drive .reach) (tableMeans (D·Drive .means) (P·Profile .means) (now (self .entry))) (line.Cut asked) r (tableMeans (D·Drive .means) (P·Profile .means) (now (self .exit))) ⌝ }
     {
         self.begun = true;
         let cut = Cut {
@@ -67,14 +71,38 @@ impl<D: Motor, P: Profile> Table<D, P> {
             accel: asked.accel,
             decel: asked.decel,
         };
-        match make_cut(&mut self.drive, &mut self.profile, cut) {
+        match make_cut(&mut self.drive, &mut self.profile, cut, watch) {
+            Ok(report) => Ok(Some(report)),
+            Err(fault) => Err(Refusal::Cut(fault)),
+        }
+    }
+
+    fn blend<W: Watch>(
+        &mut self,
+        asked: BlendLine,
+        watch: &mut W,
+    ) -> Result<Option<Report>, Refusal>
+        ensures { λ r. ⌜ Taken (D·Drive .reach) (tableMeans (D·Drive .means) (P·Profile .means) (now (self .entry))) (line.Blend asked) r (tableMeans (D·Drive .means) (P·Profile .means) (now (self .exit))) ⌝ }
+    {
+        self.begun = true;
+        let plan = match Plan::new(asked.start, asked.accel, asked.decel, asked.listed()) {
+            Ok(plan) => plan,
+            Err(fault) => return Err(Refusal::Plan(fault)),
+        };
+        match make_blend(
+            &mut self.drive,
+            &mut self.profile,
+            plan,
+            asked.direction,
+            watch,
+        ) {
             Ok(report) => Ok(Some(report)),
             Err(fault) => Err(Refusal::Cut(fault)),
         }
     }
 
     // Takes one line; a cut is answered by its report.
-    pub fn take(&mut self, line: Line) -> Result<Option<Report>, Refusal>
+    pub fn take<W: Watch>(&mut self, line: Line, watch: &mut W) -> Result<Option<Report>, Refusal>
         ensures { λ r. ⌜ Taken (D·Drive .reach) (tableMeans (D·Drive .means) (P·Profile .means) (now (self .entry))) line r (tableMeans (D·Drive .means) (P·Profile .means) (now (self .exit))) ⌝ }
     {
         match line {
@@ -82,7 +110,8 @@ impl<D: Motor, P: Profile> Table<D, P> {
             Line::Bed(_, _) => Err(Refusal::SecondBed),
             Line::At(place) => self.stand_at(place),
             Line::Tripped => self.start_tripped(),
-            Line::Cut(cut) => self.cut(cut),
+            Line::Cut(cut) => self.cut(cut, watch),
+            Line::Blend(blend) => self.blend(blend, watch),
         }
     }
 }

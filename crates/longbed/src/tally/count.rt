@@ -29,7 +29,7 @@ impl Tally {
                     self.arrived = self.arrived.saturating_add(1);
                 }
             }
-            Err(Refusal::Cut(_)) => {
+            Err(Refusal::Cut(_) | Refusal::Plan(_)) => {
                 self.refused = self.refused.saturating_add(1);
                 self.asked = self.asked.saturating_add(1);
             }

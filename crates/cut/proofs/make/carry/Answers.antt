@@ -42,6 +42,6 @@ returns g c =
     let f : SFits w32 (c .end-of-target .result) = search needs in
     let h : SFits w32 (c .place .result) = search needs in
     let end : toZ w32 (ofZ w32 (c .end-of-target .result)) ≡ blendEnd (d g a) plan way =
-        toZ-ofZ w32 (c .end-of-target .result) f ∙ (c .end-of-target .ensures ∙ ap₂ (λ z n. z +ℤ signed way n) (place-is g a) (c .steps .ensures)) in
+    toZ-ofZ w32 (c .end-of-target .result) f ∙ (c .end-of-target .ensures ∙ ap₂ (λ z n. z +ℤ signed way n) (place-is g a) (c .steps .ensures)) in
     carried plan way (d g a) (g .P·Profile .means (c .args .profile .now)) (c .run-plan-travel .result) _ d′ (g .P·Profile .means (c .run-plan-travel .last .profile))
     (c .pre .untripped) (c .run-plan-travel .ensures) (place-is g a) end (toZ-ofZ w32 (c .place .result) h ∙ c .place .ensures) refl refl refl
