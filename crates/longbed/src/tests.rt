@@ -17,6 +17,9 @@ use drive::pulse::PulseIsDrive;
 use drive::traits::Drive;
 use profile::creep::Creep;
 use profile::creep::CreepIsProfile;
+use profile::fault::PlanFault;
+use ramp::ramp::Ramp;
+use ramp::ramp::RampIsProfile;
 use script::line::LineFault;
 use std::test::*;
 
@@ -83,4 +86,30 @@ fn scripts_tell_whether_a_line_was_refused(rt: LibcRuntime) -> Result<(), Fail> 
     check(!run(&rt, b"bed pulse creep\ncut 0 100 300 50 50\n", false)?)?;
     check(!run(&rt, b"at 5\nbed pulse creep\n", false)?)?;
     check(!run(&rt, b"# nothing\n", false)?)
+}
+
+#[test]
+fn blends_that_are_no_plan_move_nothing() -> Result<(), Fail> {
+    let mut table = Table::new(PulseDrive::new(), Ramp::new());
+    check_eq(
+        take_text(&mut table, b"blend cw 100 0 100 2 300", &mut Unwatched),
+        Err(Refusal::Plan(PlanFault::Acceleration)),
+    )?;
+    check_eq(
+        take_text(&mut table, b"tripped", &mut Unwatched),
+        Err(Refusal::TooLate),
+    )?;
+    let report = Report {
+        from: 0,
+        target: -2,
+        to: -2,
+        ticks: 9,
+        steps: 2,
+        peak: 300,
+    };
+    check_eq(
+        take_text(&mut table, b"blend ccw 100 100 100 2 300", &mut Unwatched),
+        Ok(Some(report)),
+    )?;
+    check_eq(table.drive().place(), -2)
 }

@@ -1,4 +1,5 @@
 pub mod DecimalLaws
 pub mod LineLaws
+pub mod RowLaws
 pub mod TextLaws
 pub mod TextLineLaws
