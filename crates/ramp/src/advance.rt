@@ -26,6 +26,9 @@ fn greatest_speed(start: u32, decel: u32, limit: u32, rest: u64) -> u32
     requires { ⌜ 0 < decel ⌝ ∗ ⌜ limit ≤ 200000 ⌝ }
     ensures { λ r. ⌜ Greatest (λ u. (u ≤ limit) × (u + braking start decel u ≤ rest)) r ⌝ }
 {
+    if limit as u64 + braking_sum(start, decel, limit) <= rest {
+        return limit;
+    }
     let mut low = 0;
     let mut high = limit;
     for _turn in 0..18u32 {

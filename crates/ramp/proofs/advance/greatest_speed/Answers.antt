@@ -33,3 +33,7 @@ loop-turn-again c =
 
 pub returns : need.returns
 returns c = between-last _ _ _ _ _ _ _ (c .loop-turn-test .left) (c .loop-turn .inv)
+
+pub add-limit : need.add-limit
+add-limit c =
+    record { fits = omega (arith, c .braking-sum .ensures, braking-small (c .args .start) (c .args .decel) (c .args .limit) 200000 (c .pre .1)) }
