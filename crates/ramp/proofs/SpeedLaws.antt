@@ -6,8 +6,7 @@ use mathlib.Core.Logic.{⊎-elim}
 use Prim.Native.Nat.{ℕ, zero, suc, _+_, _-_, _*_, _≤_, _<_}
 use native.Mathlib.Numerals.{add-one}
 use native.Mathlib.Omega.{arith}
-use lib.ListN.{length, drop, getD}
-use lib.Seq.{drop-cons}
+use lib.ListN.{length, take, getD}
 use Rattle.std.proofs.shelf.Tests.{cases-lt, lt-ltb, le-ltb}
 use Rattle.profile.specs.Rows.{areRows, stepsOf, topOf}
 use Rattle.profile.specs.declared.row.Row.{Row}
@@ -23,26 +22,40 @@ module _ (r : Row) (rows : List Row) (g : ℕ) where
   unfolding speedAt
   later-speed h = rw (le-ltb g (1000 * r .steps) h, speedAt) refl
 
-module _ (rows : List Row) (i g : ℕ) where
-  abbrev row : Row
-  row = getD rows i (record { steps = 0; speed = 0 })
+abbrev at : List Row → ℕ → Row
+at rows i = getD rows i (record { steps = 0; speed = 0 })
 
-  next : i < length rows → drop i rows ≡ row ∷ drop (i + 1) rows
-  next h = rw add-one (drop-cons rows i (record { steps = 0; speed = 0 }) h)
+steps-suc : (rows : List Row) (i : ℕ) → i < length rows → stepsOf (take (suc i) rows) ≡ stepsOf (take i rows) + at rows i .steps
+unfolding stepsOf
+steps-suc [] i h = absurd (omega arith)
+steps-suc (r ∷ []) zero h = omega arith
+steps-suc (r ∷ q ∷ rows) zero h = omega arith
+steps-suc (r ∷ rows) (suc i) h = omega (arith, steps-suc rows i (omega arith))
 
-  pub speed-here : i < length rows → g < 1000 * row .steps → speedAt (drop i rows) g ≡ row .speed
-  speed-here h l = ap (λ rs. speedAt rs g) (next h) ∙ first-speed row (drop (i + 1) rows) g l
+-- one row more
+pub steps-more : (rows : List Row) (i : ℕ) → i < length rows → stepsOf (take (i + 1) rows) ≡ stepsOf (take i rows) + at rows i .steps
+steps-more rows i h = rw add-one (steps-suc rows i h)
 
-  pub speed-later :
-      i < length rows → 1000 * row .steps ≤ g → speedAt (drop i rows) g ≡ speedAt (drop (i + 1) rows) (g - 1000 * row .steps)
-  speed-later h l = ap (λ rs. speedAt rs g) (next h) ∙ later-speed row (drop (i + 1) rows) g l
+pub steps-none : (rows : List Row) → stepsOf (take 0 rows) ≡ 0
+unfolding stepsOf
+steps-none [] = refl
+steps-none (r ∷ rows) = refl
 
-pub speed-past : (rows : List Row) (i g : ℕ) → length rows ≤ i → speedAt (drop i rows) g ≡ 0
-unfolding speedAt
-speed-past [] zero g h = refl
-speed-past [] (suc i) g h = refl
-speed-past (r ∷ rows) zero g h = absurd (omega arith)
-speed-past (r ∷ rows) (suc i) g h = speed-past rows i g (omega arith)
+-- the row that holds a millistep
+pub speed-here :
+    (rows : List Row) (i g : ℕ) → i < length rows → 1000 * stepsOf (take i rows) ≤ g → g < 1000 * stepsOf (take i rows) + 1000 * at rows i .steps
+    → speedAt rows g ≡ at rows i .speed
+unfolding stepsOf
+speed-here [] i g h a b = absurd (omega arith)
+speed-here (r ∷ rows) zero g h a b = first-speed r rows g (omega arith)
+speed-here (r ∷ rows) (suc i) g h a b =
+    later-speed r rows g (omega arith) ∙ speed-here rows i (g - 1000 * r .steps) (omega arith) (omega arith) (omega arith)
+
+-- no row holds one past the last
+pub speed-past : (rows : List Row) (g : ℕ) → 1000 * stepsOf rows ≤ g → speedAt rows g ≡ 0
+unfolding stepsOf speedAt
+speed-past [] g h = refl
+speed-past (r ∷ rows) g h = later-speed r rows g (omega arith) ∙ speed-past rows (g - 1000 * r .steps) (omega arith)
 
 -- the row of a millistep of the plan is at least as fast as the start, and no row is faster than the top
 pub speed-least : (S : ℕ) (rows : List Row) (g : ℕ) → areRows S rows ≡ true → g < 1000 * stepsOf rows → S ≤ speedAt rows g

@@ -2,15 +2,23 @@
 -- the greatest advance that may be, until gone is asked. Before the first plan nothing is left. The lag is 0.
 use mathlib.Core.Path.{_≡_}
 use mathlib.Core.Bool.{true, false}
+use mathlib.Core.List.{List, []}
 use Prim.Native.Nat.{ℕ, zero, suc, _+_, _-_}
 use lib.Dec.{ltb}
 use Rattle.std.specs.declared.option.Option.{Option}
 use Rattle.std.specs.declared.option.Option.the-variants.{Some, None}
-use Rattle.profile.specs.Plans.{PlanMeans}
+use Rattle.profile.specs.Plans.{PlanMeans, planMeans}
 use Rattle.profile.specs.Profiles.{ProfileMeans, startOf, decelOf}
+use Rattle.profile.specs.declared.plan.Plan.{Plan}
+use Rattle.profile.specs.declared.row.Row.{Row}
 use Rattle.ramp.specs.Advances.{May, advance}
 use Rattle.ramp.specs.Braking.{braking}
 use Rattle.ramp.specs.Speeds.{speedAt}
+
+-- the rows of a plan: none before the first
+abbrev pub rowsIn : Option Plan → List Row
+rowsIn None = []
+rowsIn (Some p) = planMeans p .rows
 
 -- the braking distance of a speed
 abbrev pub brakingOf : Option PlanMeans → ℕ → ℕ

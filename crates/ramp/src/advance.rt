@@ -3,19 +3,18 @@ ghost use Prim.Native.Nat.{_+_, _<_, _≤_};
 ghost use Rattle.profile.specs.Plans.{planMeans};
 ghost use Rattle.ramp.specs.Advances.{Greatest, May};
 ghost use Rattle.ramp.specs.Braking.{braking};
-ghost use Rattle.ramp.specs.Speeds.{speedAt};
 use crate::braking::braking_sum;
-use crate::speed::speed_at;
 use profile::plan::Plan;
 
-// The greatest advance that may be with `gone` millisteps behind, `rest` to go and the advance `last` before.
-pub(crate) fn next_advance(plan: &Plan, gone: u64, rest: u64, last: u32) -> u32
-    requires { ⌜ last ≤ 200000 ⌝ }
-    ensures { λ r. ⌜ Greatest (May (planMeans (now (plan .entry)) .start) (planMeans (now (plan .entry)) .accel) (planMeans (now (plan .entry)) .decel) (speedAt (planMeans (now (plan .entry)) .rows) gone) last rest) r ⌝ }
+// The greatest advance that may be in a row of this speed, with `rest` millisteps to go and the advance `last` before.
+pub(crate) fn next_advance(plan: &Plan, row_speed: u32, rest: u64, last: u32) -> u32
+    requires row { ⌜ «row_speed» ≤ 200000 ⌝ }
+    requires last { ⌜ last ≤ 200000 ⌝ }
+    ensures { λ r. ⌜ Greatest (May (planMeans (now (plan .entry)) .start) (planMeans (now (plan .entry)) .accel) (planMeans (now (plan .entry)) .decel) «row_speed» last rest) r ⌝ }
 {
     let start = plan.start();
     let decel = plan.decel();
-    let slow = speed_at(plan.rows(), gone).max(last.saturating_sub(decel));
+    let slow = row_speed.max(last.saturating_sub(decel));
     let eased = start.max(last + plan.accel());
     greatest_speed(start, decel, slow.min(eased), rest)
 }

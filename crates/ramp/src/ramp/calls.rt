@@ -9,6 +9,7 @@ ghost use Rattle.ramp.specs.Ramps.{rampMeans, lastOf, Advanced};
 use super::Ramp;
 use crate::advance::next_advance;
 use crate::braking::braking_distance;
+use crate::speed::find_row;
 use profile::plan::Plan;
 use profile::traits::Profile;
 
@@ -23,6 +24,8 @@ impl Ramp {
             asked: 0,
             gone: 0,
             last: 0,
+            row: 0,
+            before: 0,
         }
     }
 
@@ -45,6 +48,8 @@ pub impl Profile for Ramp as RampIsProfile {
         self.asked = 1000 * plan.steps() as u64;
         self.gone = 0;
         self.last = 0;
+        self.row = 0;
+        self.before = 0;
         self.plan = Some(plan);
     }
 
@@ -58,9 +63,12 @@ pub impl Profile for Ramp as RampIsProfile {
         if self.gone == self.asked {
             return 0;
         }
-        let advance = next_advance(plan, self.gone, self.asked - self.gone, self.last);
+        let found = find_row(plan.rows(), self.row, self.before, self.gone);
+        let advance = next_advance(plan, found.speed, self.asked - self.gone, self.last);
         self.gone += advance as u64;
         self.last = advance;
+        self.row = found.row;
+        self.before = found.before;
         advance
     }
 
