@@ -81,7 +81,7 @@ abbrev pub no_pace : Pace
 no_pace = record { last = 0; before = 0 }
 
 -- At power-up the axis is idle, the kept word is 0, levels are off and the table is empty; Configuration_Error and
--- Position_Invalid are set. The starting speed is 1 until a set_up gives one: nothing that uses it is allowed before.
+-- Position_Invalid are set. The starting speed is 1 until a set-up gives one: nothing that uses it is allowed before.
 abbrev pub powered_up : DriveMeans → ProfileMeans → AxisMeans
 powered_up d p =
     record {

@@ -76,7 +76,7 @@ on_held (Some target) next = next target
 abbrev pub is_held : State → Bool
 is_held s = elim (held_target s) [ None ↦ false | Some target ↦ true ]
 
--- Does the state allow the command? Absolute, Relative, Preset, Program and Run need a set_up, and Run a ready table too.
+-- Does the state allow the command? Absolute, Relative, Preset, Program and Run need a set-up, and Run a ready table too.
 abbrev pub allowed : AxisMeans → Command → Bool
 allowed m command.Absolute = rests m.state && not m.flags.configuration
 allowed m command.Relative = rests m.state && not m.flags.configuration

@@ -1,4 +1,4 @@
--- A set_up gives the starting speed. It is refused outside Idle, which changes nothing, and then where the speed is not 1 to
+-- A set-up gives the starting speed. It is refused outside Idle, which changes nothing, and then where the speed is not 1 to
 -- 1000 times the drive's reach, which sets Configuration_Error and empties the table.
 use Rattle.std.specs.Prelude.{ℕ, ◌*◌, Bool, true, false, cond, ℤ, pos, Ok, Result, unsigned_abs}
 use Rattle.block.specs.declared.refusal.Refusal.{Refusal}

@@ -1,4 +1,6 @@
-// The axis: set_up, blocks, events and ticks, over any drive and any profile.
+// The axis: set-up, blocks, events and ticks, over any drive and any profile.
+#![tactic(auto)]
+
 pub mod axis;
 pub mod flags;
 pub mod order;

@@ -26,7 +26,7 @@ pub enum Refusal {
     Limit,
     // There is no event with this code.
     EventCode,
-    // The starting speed of a set_up is out of range.
+    // The starting speed of a set-up is out of range.
     StartSpeed,
 }
 

@@ -1,4 +1,6 @@
 // Reads a line of a call script from its bytes.
+#![tactic(auto)]
+
 pub mod fault;
 pub mod line;
 pub mod read;

@@ -1,4 +1,6 @@
 // Positions, drives and the steps that are due to a drive.
+#![tactic(auto)]
+
 pub mod direction;
 pub mod fault;
 pub mod phase;

@@ -1,5 +1,7 @@
 // Reads a cut script from the standard input, makes its cuts and tells what it did. Ends with status 1 where a line was refused.
 // With the argument --ticks it also prints the advance of every tick.
+#![tactic(auto)]
+
 mod motor;
 mod refusal;
 mod run;

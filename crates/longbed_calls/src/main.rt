@@ -1,5 +1,7 @@
 // Reads a call script from the standard input, makes its calls of an axis and prints what each answered.
 // Where a line cannot be read nothing is called, and the program ends with status 1.
+#![tactic(auto)]
+
 mod motor;
 mod order;
 mod prepare;

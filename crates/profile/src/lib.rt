@@ -1,4 +1,6 @@
 // Plans, and the profiles that turn a plan into advances, one a tick.
+#![tactic(auto)]
+
 pub mod creep;
 pub mod fault;
 pub mod plan;

@@ -1,4 +1,6 @@
 // Reads a line of a cut script from its bytes.
+#![tactic(auto)]
+
 pub mod line;
 pub mod lines;
 pub mod number;

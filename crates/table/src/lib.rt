@@ -1,4 +1,6 @@
 // The table of segments, and the plans and courses that its rows make.
+#![tactic(auto)]
+
 pub mod course;
 pub mod extent;
 pub mod segment;

@@ -1,6 +1,8 @@
 // Runs plans from its standard input and prints what they came to, to be compared with an independent computation
 // (tools/trials.py writes both the plans and what is expected). A line has the smoothing's length (0 for none), the starting
 // speed, the acceleration, the deceleration, the tick after which it is braked (0 for never), and steps and speed of each row.
+#![tactic(auto)]
+
 mod trial;
 
 use profile::fault::PlanFault;

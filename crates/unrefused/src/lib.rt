@@ -1,4 +1,6 @@
 // The drive never refuses the advance of a tick.
+#![tactic(auto)]
+
 ghost use Rattle.unrefused.specs.Fits.{DriveTakesAll};
 
 // Over any drive that goes 1 to 200 steps at once: the axis is fit at power-up, set-ups, blocks, events and ticks keep it fit, and

@@ -1,4 +1,4 @@
-// Power-up, set_up, and what the axis tells.
+// Power-up, set-up, and what the axis tells.
 ghost use Rattle.std.specs.Prelude.{◌≡◌};
 ghost use Rattle.axis.specs.Axes.{meaning, powered_up};
 

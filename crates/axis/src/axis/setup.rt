@@ -1,4 +1,4 @@
-// The set_up call.
+// The set-up call.
 ghost use Rattle.std.specs.Prelude.{◌≡◌, false};
 ghost use Rattle.axis.specs.Axes.{meaning};
 ghost use Rattle.axis.specs.Setups.{is_idle, setup_answer, setup_after};
