@@ -47,9 +47,9 @@ module _ (m : ProfileMeans) (s : Sound m) where
       (λ (n : m.left ≡ 0 → ⊥). omega (arith, n, e, left_at_some m.left (x ∷ xs) n))
       (cases_eq m.left 0)
 
-  left_over : (ws : List ℕ) → Kept (fastest m.plan) m.gone ws → mean_of ws ≡ m.asked → left_over m.left ws ≡ 0
-  left_over [] k e = absurd k
-  left_over (x ∷ xs) k e =
+  left_over_none : (ws : List ℕ) → Kept (fastest m.plan) m.gone ws → mean_of ws ≡ m.asked → left_over m.left ws ≡ 0
+  left_over_none [] k e = absurd k
+  left_over_none (x ∷ xs) k e =
       let g : m.gone ≡ m.asked = omega (arith, e, mean_le (fastest m.plan) m.gone (x ∷ xs) k, s.reached) in
       left_at_none m.left (x ∷ xs) (s.over g)
       ∙ ⊎_elim
@@ -64,12 +64,12 @@ module _ (m : ProfileMeans) (s : Sound m) where
         reached = omega (arith, le, s.reached);
         near = s.near;
         done = left_done ws k;
-        over = left_over ws k;
+        over = left_over_none ws k;
         lawful = s.lawful;
         blank = λ e.
             let b = s.blank e in
             let z : mean_of ws ≡ m.asked = omega (arith, le, b.0, b.1) in
-            (b.0, omega (arith, z, b.0), left_over ws k z);
+            (b.0, omega (arith, z, b.0), left_over_none ws k z);
       }
 
 -- a new plan below, with zeros kept

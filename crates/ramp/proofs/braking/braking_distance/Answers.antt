@@ -7,6 +7,6 @@ use Rattle.ramp.proofs.braking.braking_distance.Goals as goal
 pub returns : goal.returns
 returns c =
     record {
-      distance = c.braking-sum.ensures ∙ ap₂ (λ s d. braking s d c.args.speed) c.start.ensures c.decel.ensures;
+      distance = c.braking_sum.ensures ∙ ap₂ (λ s d. braking s d c.args.speed) c.start.ensures c.decel.ensures;
       rule = braking_rule _ _ (lawful c.args.plan.now).slows.0;
     }

@@ -3,5 +3,12 @@ use Rattle.ramp.specs.BrakingLaws.{braking_low}
 use Rattle.ramp.specs.SpeedLaws.{steps_none}
 use Rattle.ramp.proofs.ramp.Ramp.new.Goals as goal
 
-pub invariant-of-result : goal.invariant-of-result
-invariant-of-result c = (omega arith, (omega arith, (omega (arith, braking_low 0 0 0 (omega arith)), (omega (arith, steps_none []), (omega arith, tt)))))
+pub invariant_of-result : goal.invariant_of-result
+invariant_of-result c =
+    record {
+      within = omega arith;
+      slow = omega arith;
+      stops = omega (arith, braking_low 0 0 0 (omega arith));
+      there = omega (arith, steps_none []);
+      behind = omega arith;
+    }

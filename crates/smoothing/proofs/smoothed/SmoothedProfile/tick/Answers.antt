@@ -23,14 +23,14 @@ module _ (g : given.Over) (c : After-push g) where
   value : c.gone-gone.result + c.tick-advance.result ≡ m'.gone
   value = ap (λ x. x + c.tick-advance.result) c.gone-gone.ensures ∙ sym (ap (λ x. x.gone) c.tick-advance.ensures.ticked.after)
 
-  before : kept_of c.bring-in-step.new.self ≡ ws
+  before : kept_of c.bring_in_step.new.self ≡ ws
   before =
-      c.bring-in-step.ensures.kept
+      c.bring_in_step.ensures.kept
       ∙ ap (λ v. kept_at c.args.self.now.window v c.top.result) c.gone-gone.ensures
       ∙ ap (kept_at c.args.self.now.window m.gone) c.top.ensures
 
   after : kept_of c.push.new.self ≡ pushed m'.gone ws
-  after = c.push.ensures.kept ∙ ap (λ v. pushed v (kept_of c.bring-in-step.new.self)) value ∙ ap (pushed m'.gone) before
+  after = c.push.ensures.kept ∙ ap (λ v. pushed v (kept_of c.bring_in_step.new.self)) value ∙ ap (pushed m'.gone) before
 
   rise : mean_of ws + c.push.result ≡ mean_of (pushed m'.gone ws)
   rise = sym (ap (λ l. mean_of l + c.push.result) before) ∙ c.push.ensures.rise ∙ ap mean_of after
@@ -39,7 +39,7 @@ module _ (g : given.Over) (c : After-push g) where
   step =
       in_step_true c.push.new.self m'.gone (fastest m'.plan)
       (c.push.ensures.newest ∙ value)
-      (c.push.ensures.pace ∙ c.bring-in-step.ensures.pace ∙ c.top.ensures ∙ sym (ap (λ x. fastest x.plan) c.tick-advance.ensures.ticked.after))
+      (c.push.ensures.pace ∙ c.bring_in_step.ensures.pace ∙ c.top.ensures ∙ sym (ap (λ x. fastest x.plan) c.tick-advance.ensures.ticked.after))
 
   kept : kept_at c.push.new.self m'.gone (fastest m'.plan) ≡ pushed m'.gone ws
   kept = kept_in c.push.new.self m'.gone (fastest m'.plan) step ∙ after

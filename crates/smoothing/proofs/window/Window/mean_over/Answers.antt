@@ -6,15 +6,15 @@ use Rattle.smoothing.specs.Keeps.{mean_replicate}
 use Rattle.smoothing.specs.WindowLaws.{some, mean_kept, kept_in}
 use Rattle.smoothing.proofs.window.Window.mean_over.Goals as goal
 
-pub returns-then-in-step : goal.returns-then-in-step
-returns-then-in-step c =
+pub returns-then-in_step : goal.returns-then-in_step
+returns-then-in_step c =
     let s = c.args.self.now in
-    mean_kept s ∙ sym (ap mean_of (kept_in s c.args.gone c.args.top (sym c.if-in-step.ensures)))
+    mean_kept s ∙ sym (ap mean_of (kept_in s c.args.gone c.args.top (sym c.if-in_step.ensures)))
 
-pub returns-else-in-step : goal.returns-else-in-step
-returns-else-in-step c =
+pub returns-else-in_step : goal.returns-else-in_step
+returns-else-in_step c =
     let s = c.args.self.now in
     let v = c.args.gone in
     let n = length (kept_of s) in
-    let e = cond-false (in_step s v c.args.top) (kept_of s) (replicate n v) (sym c.if-in-step.ensures) in
+    let e = cond-false (in_step s v c.args.top) (kept_of s) (replicate n v) (sym c.if-in_step.ensures) in
     sym (ap mean_of e ∙ mean_replicate n v (some s))

@@ -5,8 +5,8 @@ use Rattle.smoothing.specs.Keeps.{total_replicate, mul_mean, kept_replicate, tru
 use Rattle.smoothing.specs.Rings.{newest_replicate}
 use Rattle.smoothing.proofs.window.Window.new.Goals as goal
 
-pub invariant-of-result : goal.invariant-of-result
-invariant-of-result c =
+pub invariant_of-result : goal.invariant_of-result
+invariant_of-result c =
     let n = c.args.size in
     let v = c.args.value in
     let t = c.args.pace in
@@ -15,7 +15,14 @@ invariant-of-result c =
     = ap (λ l. is_kept t v (newest_first 0 l)) e
     ∙ ap (is_kept t v) (newest_replicate n v)
     ∙ true_kept t v (replicate n v) (kept_replicate t v n c.requires.sized.0) in
-    (length-replicate 64 v, (c.requires.sized, (sym (ap total e ∙ total_replicate n v), (sym (mul_mean v n c.requires.sized.0), (c.requires.near, (k, tt))))))
+    record {
+      full = length-replicate 64 v;
+      sized = c.requires.sized;
+      summed = sym (ap total e ∙ total_replicate n v);
+      averaged = sym (mul_mean v n c.requires.sized.0);
+      near = c.requires.near;
+      steady = k;
+    }
 
 pub returns : goal.returns
 returns c =

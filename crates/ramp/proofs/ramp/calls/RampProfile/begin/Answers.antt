@@ -6,10 +6,16 @@ use Rattle.ramp.specs.CallLaws.{begun}
 use Rattle.ramp.specs.SpeedLaws.{steps_none}
 use Rattle.ramp.proofs.ramp.calls.RampProfile.begin.Goals as goal
 
-pub invariant-of-self : goal.invariant-of-self
-invariant-of-self c =
+pub invariant_of-self : goal.invariant_of-self
+invariant_of-self c =
     let b = braking_low c.args.plan.start c.args.plan.decel 0 (omega arith) in
-    (omega (arith, c.steps.ensures), (omega arith, (omega arith, (omega (arith, steps_none (plan_means c.args.plan).rows), (omega arith, tt)))))
+    record {
+      within = omega (arith, c.steps.ensures);
+      slow = omega arith;
+      stops = omega arith;
+      there = omega (arith, steps_none (plan_means c.args.plan).rows);
+      behind = omega arith;
+    }
 
 pub returns : goal.returns
 returns c =

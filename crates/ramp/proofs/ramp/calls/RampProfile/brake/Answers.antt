@@ -9,9 +9,9 @@ returns-in-Some c =
     let a = c.args.self.now in
     let p = c.in-Some.plan in
     record {
-      braked = braked a p c.in-Some.is c.braking-distance.result c.braking-distance.ensures.distance;
+      braked = braked a p c.in-Some.is c.braking_distance.result c.braking_distance.ensures.distance;
       exactly = ap
           (λ b. ramping (plan_of a.plan) (a.gone + b) a.gone a.last)
-          (braked_distance a p c.in-Some.is c.braking-distance.result c.braking-distance.ensures.distance);
+          (braked_distance a p c.in-Some.is c.braking_distance.result c.braking_distance.ensures.distance);
       last = refl;
     }
