@@ -10,7 +10,7 @@ pub loop-profile-preserved : goal.loop-profile-preserved
 loop-profile-preserved g c =
     let after = c.tick-advance.ensures.ticked.after in
     let some = eqb-false _ 0 (sym c.loop-profile-test.ensures) in
-    (ap (λ m. m.asked) after ∙ c.loop-profile.invariant.0, omega (arith, some, ap (λ m. m.left) after, c.loop-profile.invariant.1, c.saturating-add-ticks.ensures))
+    (ap (λ m. m.asked) after ∙ c.loop-profile.invariant.0, omega (arith, some, ap (λ m. m.left) after, c.loop-profile.invariant.1, c.saturating_add-ticks.ensures))
 
 pub loop-profile-smaller : goal.loop-profile-smaller
 loop-profile-smaller g c =

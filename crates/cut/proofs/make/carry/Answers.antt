@@ -19,8 +19,8 @@ module _ (g : given.Over) (c : After-steps g) where
   place_is : to_z w32 (of_z w32 c.place-from.result) ≡ d.place
   place_is = let f : SFits w32 c.place-from.result = search rules in to_z-of_z w32 c.place-from.result f ∙ c.place-from.ensures
 
-pub end-of-target-requires : goal.end-of-target-requires
-end-of-target-requires g c =
+pub end_of-target-requires : goal.end_of-target-requires
+end_of-target-requires g c =
     let P : ℤ → Type 0 = λ z. is_position z ≡ true in
     record {
       placed = subst P (sym (place_is g c)) (g.met.D.Drive.placed c.args.drive.now);
@@ -32,10 +32,10 @@ returns g c =
     let a = (goal.at.returns g c).After-steps in
     let way = c.args.direction in
     let plan = plan_means c.args.plan in
-    let d' = g.D.Drive.means c.run-plan-travel.new.drive in
-    let f : SFits w32 c.end-of-target.result = search rules in
+    let d' = g.D.Drive.means c.run_plan-travel.new.drive in
+    let f : SFits w32 c.end_of-target.result = search rules in
     let h : SFits w32 c.place.result = search rules in
-    let end : to_z w32 (of_z w32 c.end-of-target.result) ≡ blend_end (d g a) plan way =
-    to_z-of_z w32 c.end-of-target.result f ∙ (c.end-of-target.ensures ∙ ap₂ (λ z n. z +ℤ signed way n) (place_is g a) c.steps.ensures) in
-    carried plan way (d g a) (g.P.Profile.means c.args.profile.now) c.run-plan-travel.result _ d' (g.P.Profile.means c.run-plan-travel.new.profile)
-    c.requires.untripped c.run-plan-travel.ensures (place_is g a) end (to_z-of_z w32 c.place.result h ∙ c.place.ensures) refl refl refl
+    let end : to_z w32 (of_z w32 c.end_of-target.result) ≡ blend_end (d g a) plan way =
+    to_z-of_z w32 c.end_of-target.result f ∙ (c.end_of-target.ensures ∙ ap₂ (λ z n. z +ℤ signed way n) (place_is g a) c.steps.ensures) in
+    carried plan way (d g a) (g.P.Profile.means c.args.profile.now) c.run_plan-travel.result _ d' (g.P.Profile.means c.run_plan-travel.new.profile)
+    c.requires.untripped c.run_plan-travel.ensures (place_is g a) end (to_z-of_z w32 c.place.result h ∙ c.place.ensures) refl refl refl

@@ -6,10 +6,10 @@ use Rattle.cut.specs.Cuts.{blend_judged}
 use Rattle.cut.proofs.Judging.{blend_ready, placed_as}
 use Rattle.cut.proofs.make.make_blend.Given as given
 use Rattle.cut.proofs.make.make_blend.Goals as goal
-use Rattle.cut.proofs.make.make_blend.Goals.{In-default}
+use Rattle.cut.proofs.make.make_blend.Goals.{In_default}
 
-pub judge-blend-requires : goal.judge-blend-requires
-judge-blend-requires g c =
+pub judge_blend-requires : goal.judge_blend-requires
+judge_blend-requires g c =
     let f : SFits w32 c.place-from.result = search rules in
     record {
       reach = omega (arith, c.reach.ensures, g.met.D.Drive.bounded.1);
@@ -17,7 +17,7 @@ judge-blend-requires g c =
     }
 
 -- a blend that is not refused
-module _ (g : given.Over) (c : In-default g) where
+module _ (g : given.Over) (c : In_default g) where
   abbrev d : DriveMeans
   d = g.D.Drive.means c.args.drive.now
 
@@ -28,12 +28,12 @@ module _ (g : given.Over) (c : In-default g) where
   passes =
       sym (ap₂ (λ r z. blend_judged r (record { place = z; tripped = c.tripped.result }) (plan_means c.args.plan) c.args.direction) c.reach.ensures place_is
       ∙ ap (λ b. blend_judged g.D.Drive.reach (record { place = d.place; tripped = b }) (plan_means c.args.plan) c.args.direction) c.tripped.ensures)
-      ∙ (sym c.judge-blend.ensures ∙ c.in-default.is)
+      ∙ (sym c.judge_blend.ensures ∙ c.in_default.is)
 
 pub carry-requires : goal.carry-requires
 carry-requires g c =
-    let a = (goal.at.carry-requires g c).In-default in
+    let a = (goal.at.carry-requires g c).In_default in
     blend_ready g.D.Drive.reach (d g a) (plan_means c.args.plan) c.args.direction (passes g a)
 
 pub returns : goal.returns
-returns g c = record { answer = (passes g (goal.at.returns g c).In-default, c.carry.ensures) }
+returns g c = record { answer = (passes g (goal.at.returns g c).In_default, c.carry.ensures) }

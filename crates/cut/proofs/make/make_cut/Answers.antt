@@ -27,7 +27,7 @@ module _ (g : given.Over) (c : After-distance g) where
   passes =
       sym (ap₂ (λ r z. judged r (record { place = z; tripped = c.tripped.result }) c.args.cut) c.reach.ensures place_is
       ∙ ap (λ b. judged g.D.Drive.reach (record { place = d.place; tripped = b }) c.args.cut) c.tripped.ensures)
-      ∙ (sym c.judge.ensures ∙ c.in-default.is)
+      ∙ (sym c.judge.ensures ∙ c.in_default.is)
 
   ok : Accepted g.D.Drive.reach d c.args.cut
   ok = accepted g.D.Drive.reach d c.args.cut passes
@@ -38,8 +38,8 @@ module _ (g : given.Over) (c : After-distance g) where
   turn_is : c.toward-direction.result ≡ toward d.place c.args.cut.target
   turn_is = c.toward-direction.ensures ∙ ap₂ toward place_is target_is
 
-pub plan-of-plan-requires : goal.plan-of-plan-requires
-plan-of-plan-requires g c =
+pub plan_of-plan-requires : goal.plan_of-plan-requires
+plan_of-plan-requires g c =
     let P : ℕ → Type 0 = λ n. Lawful (one_row c.args.cut n) in
     subst P (sym (way g c)) (lawful g.D.Drive.reach (d g c) c.args.cut g.met.D.Drive.bounded.1 (g.met.D.Drive.placed c.args.drive.now) (ok g c))
 
@@ -47,7 +47,7 @@ pub carry-requires : goal.carry-requires
 carry-requires g c =
     let a = (goal.at.carry-requires g c).After-distance in
     let cut = c.args.cut in
-    let plan : plan_means c.plan-of-plan.result ≡ planned (d g a) cut = c.plan-of-plan.ensures ∙ ap (one_row cut) (way g a) in
+    let plan : plan_means c.plan_of-plan.result ≡ planned (d g a) cut = c.plan_of-plan.ensures ∙ ap (one_row cut) (way g a) in
     let P : PlanMeans → Type 0 = λ q. Ready g.D.Drive.reach (d g a) q c.toward-direction.result in
     let Q : Direction → Type 0 = λ w. Ready g.D.Drive.reach (d g a) (planned (d g a) cut) w in
     subst P (sym plan) (subst Q (sym (turn_is g a)) (ready g.D.Drive.reach (d g a) cut g.met.D.Drive.bounded.1 (g.met.D.Drive.placed c.args.drive.now) (ok g a)))
@@ -59,7 +59,7 @@ returns g c =
     let d' = g.D.Drive.means c.carry.new.drive in
     let p = g.P.Profile.means c.args.profile.now in
     let p' = g.P.Profile.means c.carry.new.profile in
-    let plan : plan_means c.plan-of-plan.result ≡ planned (d g a) cut = c.plan-of-plan.ensures ∙ ap (one_row cut) (way g a) in
+    let plan : plan_means c.plan_of-plan.result ≡ planned (d g a) cut = c.plan_of-plan.ensures ∙ ap (one_row cut) (way g a) in
     let P : PlanMeans → Type 0 = λ q. Carried q (blend_end (d g a) q c.toward-direction.result) (d g a) p c.carry.result d' p' in
     let Q : Direction → Type 0 = λ w. Carried (planned (d g a) cut) (blend_end (d g a) (planned (d g a) cut) w) (d g a) p c.carry.result d' p' in
     let R : ℤ → Type 0 = λ z. Carried (planned (d g a) cut) z (d g a) p c.carry.result d' p' in

@@ -8,7 +8,7 @@ use Rattle.profile.specs.Profiles.{ProfileMeans}
 use Rattle.cut.proofs.Rolling.{Departure, Turn, sets_out, arrives, goes_on, fits, ends}
 use Rattle.cut.proofs.travel.run_plan.Given as given
 use Rattle.cut.proofs.travel.run_plan.Goals as goal
-use Rattle.cut.proofs.travel.run_plan.Goals.{After-begin, After-tick-once-advance, After-unsigned-abs-steps}
+use Rattle.cut.proofs.travel.run_plan.Goals.{After-begin, After-tick_once-advance, After-unsigned_abs-steps}
 
 module _ (g : given.Over) (c : After-begin g) where
   departure : Departure g.D.Drive.reach c.args.direction (g.D.Drive.means c.args.drive.now) (plan_means c.args.plan) (g.P.Profile.means c.args.profile.now) (g.P.Profile.means c.begin.new.self)
@@ -18,18 +18,18 @@ pub loop-direction-init : goal.loop-direction-init
 loop-direction-init g c = sets_out (departure g c)
 
 -- a turn up to its delivery
-module _ (g : given.Over) (c : After-tick-once-advance g) where
+module _ (g : given.Over) (c : After-tick_once-advance g) where
   abbrev d : DriveMeans
   d = g.D.Drive.means c.loop-direction.drive
 
   abbrev d' : DriveMeans
-  d' = g.D.Drive.means c.tick-once-advance.new.drive
+  d' = g.D.Drive.means c.tick_once-advance.new.drive
 
   abbrev p : ProfileMeans
   p = g.P.Profile.means c.loop-direction.profile
 
   abbrev p' : ProfileMeans
-  p' = g.P.Profile.means c.tick-once-advance.new.profile
+  p' = g.P.Profile.means c.tick_once-advance.new.profile
 
   abbrev from : ℤ
   from = (g.D.Drive.means c.args.drive.now).place
@@ -40,48 +40,48 @@ module _ (g : given.Over) (c : After-tick-once-advance g) where
   out : Departure g.D.Drive.reach c.args.direction (g.D.Drive.means c.args.drive.now) (plan_means c.args.plan) (g.P.Profile.means c.args.profile.now) (g.P.Profile.means c.begin.new.self)
   out = record { ready = c.requires; placed = g.met.D.Drive.placed c.args.drive.now; begun = c.begin.ensures.begun }
 
-  turn : Turn c.args.direction from (g.P.Profile.means c.begin.new.self) d p p' c.loop-direction.ticks c.loop-direction.steps c.loop-direction.peak c.tick-once-advance.result.0
-  turn = record { roll = c.loop-direction.invariant; ticked = c.tick-once-advance.ensures.ticked; sound = g.met.P.Profile.sound c.tick-once-advance.new.profile }
+  turn : Turn c.args.direction from (g.P.Profile.means c.begin.new.self) d p p' c.loop-direction.ticks c.loop-direction.steps c.loop-direction.peak c.tick_once-advance.result.0
+  turn = record { roll = c.loop-direction.invariant; ticked = c.tick_once-advance.ensures.ticked; sound = g.met.P.Profile.sound c.tick_once-advance.new.profile }
 
   some_left : p.left ≡ 0 → ⊥
   some_left = eqb-false p.left 0 (sym c.loop-direction-test.ensures)
 
-  landed : (c.tick-once-advance.result.1 ≡ Ok n) × (d' ≡ record { place = from +ℤ signed c.args.direction (p'.gone / 1000); tripped = false })
+  landed : (c.tick_once-advance.result.1 ≡ Ok n) × (d' ≡ record { place = from +ℤ signed c.args.direction (p'.gone / 1000); tripped = false })
   landed =
-      arrives out turn n c.tick-once-advance.result.1 d' refl
-      (λ e. let o = c.tick-once-advance.ensures.sent.none e in (o.0, ap g.D.Drive.means o.1))
-      c.tick-once-advance.ensures.sent.some
+      arrives out turn n c.tick_once-advance.result.1 d' refl
+      (λ e. let o = c.tick_once-advance.ensures.sent.none e in (o.0, ap g.D.Drive.means o.1))
+      c.tick_once-advance.ensures.sent.some
 
 pub unreachable-requires : goal.unreachable-requires
-unreachable-requires g c = let a = (goal.at.unreachable-requires g c).After-tick-once-advance in c.in-default.not-Ok (n g a) (landed g a).0
+unreachable-requires g c = let a = (goal.at.unreachable-requires g c).After-tick_once-advance in c.in_default.not-Ok (n g a) (landed g a).0
 
 -- the steps that the delivery answered
-module _ (g : given.Over) (c : After-unsigned-abs-steps g) where
-  abbrev before : After-tick-once-advance g
-  before = (goal.at.overflow-add-steps g c).After-tick-once-advance
+module _ (g : given.Over) (c : After-unsigned_abs-steps g) where
+  abbrev before : After-tick_once-advance g
+  before = (goal.at.overflow_add-steps g c).After-tick_once-advance
 
-  added : c.unsigned-abs-steps.result ≡ nat_abs (n g before)
+  added : c.unsigned_abs-steps.result ≡ nat_abs (n g before)
   added =
       let f : SFits w32 c.in-Ok.n = search rules in
       let l = (landed g before).0 in
       let same : c.in-Ok.n ≡ n g before = cc (c.in-Ok.is, l) in
-      c.unsigned-abs-steps.ensures.value ∙ ap nat_abs (to_z-of_z w32 c.in-Ok.n f ∙ same)
+      c.unsigned_abs-steps.ensures.value ∙ ap nat_abs (to_z-of_z w32 c.in-Ok.n f ∙ same)
 
-pub overflow-add-steps : goal.overflow-add-steps
-overflow-add-steps g c =
-    let a = (goal.at.overflow-add-steps g c).After-tick-once-advance in
+pub overflow_add-steps : goal.overflow_add-steps
+overflow_add-steps g c =
+    let a = (goal.at.overflow_add-steps g c).After-tick_once-advance in
     record { fits = omega (arith, added g c, fits (out g a) (turn g a) (n g a) refl) }
 
 pub loop-direction-preserved : goal.loop-direction-preserved
 loop-direction-preserved g c =
-    let a = (goal.at.loop-direction-preserved g c).After-tick-once-advance in
-    goes_on (out g a) (turn g a) (n g a) (d' g a) c.saturating-add-ticks.result _ c.max-peak.result (some_left g a) refl (landed g a).1
-    c.saturating-add-ticks.ensures (ap (λ k. c.loop-direction.steps + k) (added g (goal.at.loop-direction-preserved g c).After-unsigned-abs-steps)) c.max-peak.ensures
+    let a = (goal.at.loop-direction-preserved g c).After-tick_once-advance in
+    goes_on (out g a) (turn g a) (n g a) (d' g a) c.saturating_add-ticks.result _ c.max-peak.result (some_left g a) refl (landed g a).1
+    c.saturating_add-ticks.ensures (ap (λ k. c.loop-direction.steps + k) (added g (goal.at.loop-direction-preserved g c).After-unsigned_abs-steps)) c.max-peak.ensures
 
 pub loop-direction-smaller : goal.loop-direction-smaller
 loop-direction-smaller g c =
-    let a = (goal.at.loop-direction-smaller g c).After-tick-once-advance in
-    omega (arith, some_left g a, ap (λ x. x.left) c.tick-once-advance.ensures.ticked.after)
+    let a = (goal.at.loop-direction-smaller g c).After-tick_once-advance in
+    omega (arith, some_left g a, ap (λ x. x.left) c.tick_once-advance.ensures.ticked.after)
 
 pub returns : goal.returns
 returns g c =
