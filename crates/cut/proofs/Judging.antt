@@ -1,5 +1,5 @@
 -- What a cut that is not refused comes to.
-use Rattle.std.proofs.Common.{◌≡◌, ℕ, ◌+◌, ◌*◌, ◌<◌, ◌≤◌, Bool, true, false, cond, not, ◌||◌, eqb, ltb, [], ◌∷◌, ℤ, ◌+ℤ◌, Some, None, Option, sym, refl, ap, ◌∙◌, subst, arith, w32, SFits, to_z, of_z}
+use Rattle.std.proofs.Common.{◌≡◌, ℕ, ◌*◌, ◌≤◌, Bool, true, false, cond, not, ℤ, ◌+ℤ◌, Some, None, Option, sym, refl, ap, ◌∙◌, subst, arith, w32, SFits, to_z, of_z}
 use Rattle.std.proofs.lemmas.Int.{to_z-of_z}
 use Rattle.std.proofs.lemmas.Bool.{eqb-false, le-leb, ltb-false}
 use Rattle.drive.proofs.Landings.{toward_reaches, distance_near}
@@ -11,7 +11,7 @@ use Rattle.profile.specs.Plans.{PlanMeans, Lawful, plan_steps, plan_top}
 use Rattle.profile.specs.Profiles.{ProfileMeans}
 use Rattle.profile.specs.Ranges.{outside}
 use Rattle.profile.specs.Rows.{steps_of, top_of, are_rows}
-use Rattle.cut.specs.Cuts.{judged, blend_judged, blend_end, one_row, planned, Carried}
+use Rattle.cut.specs.Cuts.{judged, blend_judged, blend_end, planned, Carried}
 use Rattle.cut.specs.Travels.{Ready, Travelled}
 use Rattle.cut.specs.declared.fault.CutFault.{CutFault}
 use Rattle.cut.specs.declared.order.Cut.{Cut}

@@ -1,7 +1,6 @@
 -- A plan on its way.
-use Rattle.std.proofs.Common.{◌≡◌, ℕ, ◌+◌, ◌-◌, ◌*◌, ◌/◌, ◌<◌, ◌≤◌, min, max, true, false, ltb, leb, List, [], ◌∷◌, ◌++◌, ℤ, pos, ◌+ℤ◌, nat_abs, Some, Ok, Result, sym, refl, ap, ◌∙◌, subst, ap₂, ⊎_elim, arith}
-use Rattle.std.proofs.lemmas.Int.{ints}
-use Rattle.std.proofs.lemmas.Bool.{cases_eq, leb-true, le-leb, le-ltb}
+use Rattle.std.proofs.Common.{◌≡◌, ℕ, ◌+◌, ◌-◌, ◌*◌, ◌/◌, ◌≤◌, min, max, true, false, List, [], ◌∷◌, ◌++◌, ℤ, pos, ◌+ℤ◌, nat_abs, Some, Ok, Result, sym, refl, ap, ◌∙◌, subst, ap₂, ⊎_elim, arith}
+use Rattle.std.proofs.lemmas.Bool.{cases_eq}
 use Rattle.drive.specs.Directions.{signed}
 use Rattle.drive.proofs.Deliveries.{signed_none}
 use Rattle.drive.proofs.Landings.{nat_abs_signed, signed_zero, signed_stays, signed_joins, between, lands}
@@ -9,7 +8,7 @@ use Rattle.drive.specs.Drives.{DriveMeans, Moved, landing, landed, answering}
 use Rattle.drive.specs.Positions.{is_position}
 use Rattle.drive.specs.declared.fault.DriveFault.{DriveFault}
 use Rattle.drive.specs.declared.direction.Direction.{Direction}
-use Rattle.profile.specs.Plans.{PlanMeans, plan_steps, plan_top}
+use Rattle.profile.specs.Plans.{PlanMeans, plan_steps}
 use Rattle.profile.specs.Profiles.{ProfileMeans, Sound, Begun, Ticked, fastest}
 use Rattle.cut.specs.Travels.{Ready, Ticks, greatest, Travelled}
 use Rattle.cut.specs.declared.travel.Travel.{Travel}

@@ -1,5 +1,5 @@
 -- Where steps in one direction lead.
-use Rattle.std.proofs.Common.{◌≡◌, ℕ, zero, suc, ◌-◌, ◌≤◌, true, false, ℤ, pos, ◌+ℤ◌, nat_abs, Ok, refl, ap, ◌∙◌, arith}
+use Rattle.std.proofs.Common.{◌≡◌, ℕ, zero, suc, ◌-◌, ◌≤◌, true, false, ℤ, pos, ◌+ℤ◌, nat_abs, Ok, refl, arith}
 use lib.Signed.{lt_z}
 use Rattle.std.proofs.lemmas.Int.{ints}
 use Rattle.std.proofs.lemmas.Bool.{cond_both, leb-true, le-leb, le-ltb}

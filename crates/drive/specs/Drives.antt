@@ -1,5 +1,5 @@
 -- What a drive means, and what its calls make of that.
-use Rattle.std.specs.Prelude.{◌≡◌, ℕ, Bool, true, false, cond, ℤ, pos, ◌+ℤ◌, Ok, Err, Result, nat_lt, unsigned_abs}
+use Rattle.std.specs.Prelude.{◌≡◌, ℕ, Bool, false, cond, ℤ, pos, ◌+ℤ◌, Ok, Err, Result, nat_lt, unsigned_abs}
 use Rattle.drive.specs.Positions.{is_position}
 use Rattle.drive.specs.declared.fault.DriveFault.{DriveFault}
 use Rattle.drive.specs.declared.fault.DriveFault.TheVariants.{Tripped, TooFar, NoPosition}

@@ -1,8 +1,8 @@
 -- What holds of every plan.
-use Rattle.std.specs.Prelude.{◌≡◌, ℕ, ◌*◌, ◌<◌, ◌≤◌, length, take, Some, None, Option}
+use Rattle.std.specs.Prelude.{◌<◌, ◌≤◌, Some, None, Option}
 use Rattle.std.proofs.Common.{arith}
 use Rattle.std.proofs.lemmas.List.{length-take}
-use Rattle.profile.specs.Plans.{PlanMeans, Lawful, plan_means, plan_of, plan_steps, plan_top, way_of}
+use Rattle.profile.specs.Plans.{PlanMeans, Lawful, plan_means, plan_of, plan_steps, way_of}
 use Rattle.profile.specs.Profiles.{LawfulOf, start_of, fastest}
 use Rattle.profile.specs.declared.plan.Plan.{Plan}
 use Rattle.profile.specs.RowLaws.{top_least, top_most, steps_least}

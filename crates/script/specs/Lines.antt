@@ -8,7 +8,6 @@ use Rattle.drive.specs.declared.direction.Direction.TheVariants.{Cw, Ccw}
 use Rattle.profile.specs.declared.row.Row.{Row}
 use Rattle.script.specs.Decimals.{natural_of, number_of}
 use Rattle.script.specs.Texts.{uncommented, words_of}
-use Rattle.script.specs.declared.line.BaseProfile.{BaseProfile}
 use Rattle.script.specs.declared.line.BaseProfile.TheVariants.{Creep, Ramp}
 use Rattle.script.specs.declared.line.DriveKind.{DriveKind}
 use Rattle.script.specs.declared.line.DriveKind.TheVariants.{Pulse, Phase}

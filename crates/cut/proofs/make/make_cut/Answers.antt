@@ -1,4 +1,4 @@
-use Rattle.std.proofs.Common.{◌≡◌, ℕ, ℤ, None, sym, refl, ap, ◌∙◌, subst, ap₂, w32, SFits, to_z, of_z, rules}
+use Rattle.std.proofs.Common.{◌≡◌, ℕ, ℤ, None, sym, ap, ◌∙◌, subst, ap₂, w32, SFits, to_z, of_z, rules}
 use Rattle.std.proofs.lemmas.Int.{to_z-of_z}
 use Rattle.drive.specs.Directions.{toward}
 use Rattle.drive.specs.Drives.{DriveMeans}

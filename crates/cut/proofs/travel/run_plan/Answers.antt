@@ -1,4 +1,4 @@
-use Rattle.std.proofs.Common.{◌≡◌, ◌+◌, ◌-◌, ◌/◌, false, ℤ, ◌+ℤ◌, nat_abs, Ok, sym, refl, ap, ◌∙◌, arith, w32, SFits, to_z, of_z, rules}
+use Rattle.std.proofs.Common.{◌≡◌, ◌+◌, ◌-◌, ◌/◌, false, ℤ, ◌+ℤ◌, nat_abs, Ok, sym, refl, ap, ◌∙◌, arith, w32, SFits, rules}
 use Rattle.std.proofs.lemmas.Int.{to_z-of_z}
 use Rattle.std.proofs.lemmas.Bool.{eqb-true, eqb-false}
 use Rattle.drive.specs.Directions.{signed}

@@ -1,7 +1,6 @@
-use Rattle.std.proofs.Common.{◌≡◌, ℕ, ◌-◌, ◌*◌, ◌<◌, ◌≤◌, List, take, Some, sym, refl, ap, ◌∙◌, subst, arith}
-use Rattle.profile.specs.Plans.{plan_means, way_of}
+use Rattle.std.proofs.Common.{◌≡◌, ℕ, ◌-◌, ◌*◌, ◌<◌, take, Some, sym, refl, ap, ◌∙◌, subst, arith}
+use Rattle.profile.specs.Plans.{plan_means}
 use Rattle.profile.specs.Rows.{steps_of, top_of}
-use Rattle.profile.specs.declared.row.Row.{Row}
 use Rattle.profile.specs.PlanLaws.{lawful, top_bound, way_near}
 use Rattle.ramp.specs.Advances.{Greatest, May}
 use Rattle.ramp.specs.Ramping.{MayAdvance, rows_in}
