@@ -5,9 +5,9 @@ use Rattle.table.specs.Courses.{stays_on}
 use Rattle.table.proofs.SegmentLaws.{stays_further, stays_ends, stays_past}
 use Rattle.table.proofs.course.stays_on.Goals as goal
 
-pub returns-in-default : goal.returns-in-default
-returns-in-default c =
-    stays_ends _ c.args.rows.now c.loop-row.row-index no_segment _ c.loop-row-test.true c.in-default.ensures
+pub returns-in_default : goal.returns-in_default
+returns-in_default c =
+    stays_ends _ c.args.rows.now c.loop-row.row-index no_segment _ c.loop-row-test.true c.in_default.ensures
     (c.loop-row.invariant ∙ ap (λ z. stays_on z c.args.rows.now) (to_z-of_z w32 c.args.from c.ranges.from))
 
 pub loop-row-preserved : goal.loop-row-preserved

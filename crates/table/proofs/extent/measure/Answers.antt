@@ -2,8 +2,8 @@ use Rattle.std.proofs.Common.{arith}
 use Rattle.profile.specs.RowLaws.{steps_next, steps_past, top_next, top_past}
 use Rattle.table.proofs.extent.measure.Goals as goal
 
-pub overflow-add-steps : goal.overflow-add-steps
-overflow-add-steps c = record { fits = omega (arith, c.loop-row.invariant.0, c.loop-row.auto.row-index-end) }
+pub overflow_add-steps : goal.overflow_add-steps
+overflow_add-steps c = record { fits = omega (arith, c.loop-row.invariant.0, c.loop-row.auto.row-index-end) }
 
 pub loop-row-preserved : goal.loop-row-preserved
 loop-row-preserved c =

@@ -11,5 +11,5 @@ returns-in-45 c =
     let minus : get_or s 0 0 ≡ 45 = grind arith in
     c.negative.ensures ∙ ap (negative_of (2 ^ 31)) (take_rest s 1) ∙ sym (signed_minus (2 ^ 31) s some minus)
 
-pub returns-in-default : goal.returns-in-default
-returns-in-default c = c.positive.ensures ∙ sym (signed_plain (2 ^ 31) c.args.word.now (λ h e. grind arith))
+pub returns-in_default : goal.returns-in_default
+returns-in_default c = c.positive.ensures ∙ sym (signed_plain (2 ^ 31) c.args.word.now (λ h e. grind arith))

@@ -3,11 +3,11 @@ use Rattle.std.proofs.lemmas.Int.{to_z-of_z}
 use Rattle.text.proofs.DecimalLaws.{signed_narrow, signed_narrow_none, converted_same}
 use Rattle.text.proofs.number.short.Goals as goal
 
-pub returns-in-err-number : goal.returns-in-err-number
-returns-in-err-number c = c.from-residual.ensures ∙ sym (signed_narrow_none c.args.word.now c.in-err-number.ensures)
+pub returns-in_err-number : goal.returns-in_err-number
+returns-in_err-number c = c.from_residual.ensures ∙ sym (signed_narrow_none c.args.word.now c.in_err-number.ensures)
 
 pub returns : goal.returns
 returns c =
-    let z = c.in-ok-number.field-0 in
+    let z = c.in_ok-number.field-0 in
     let fits : SFits w32 z = search rules in
-    c.ok.ensures.value ∙ converted_same c.try-from.result _ _ z (to_z-of_z w32 z fits) c.try-from.ensures (signed_narrow c.args.word.now z c.in-ok-number.ensures)
+    c.ok.ensures.value ∙ converted_same c.try_from.result _ _ z (to_z-of_z w32 z fits) c.try_from.ensures (signed_narrow c.args.word.now z c.in_ok-number.ensures)

@@ -12,5 +12,5 @@ returns-in-48 c =
     let mark : get_or s 1 0 ≡ 120 = grind arith in
     c.bits.ensures ∙ ap bits_of (take_rest s 2) ∙ sym (word_bits s some zero mark)
 
-pub returns-in-default : goal.returns-in-default
-returns-in-default c = c.short.ensures ∙ sym (word_plain c.args.text.now (λ h e f. grind arith))
+pub returns-in_default : goal.returns-in_default
+returns-in_default c = c.short.ensures ∙ sym (word_plain c.args.text.now (λ h e f. grind arith))

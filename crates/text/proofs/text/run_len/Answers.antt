@@ -3,11 +3,11 @@ use Rattle.text.proofs.TextLaws.{run_more, run_at, run_all, run_whole}
 use Rattle.text.proofs.text.run_len.Goals as goal
 
 pub loop-i-preserved : goal.loop-i-preserved
-loop-i-preserved c = run_more _ _ c.loop-i-test.true (sym c.if-is-blank.ensures) ∙ c.loop-i.invariant
+loop-i-preserved c = run_more _ _ c.loop-i-test.true (sym c.if-is_blank.ensures) ∙ c.loop-i.invariant
 
-pub returns-then-is-blank : goal.returns-then-is-blank
-returns-then-is-blank c =
-    let blank = sym c.if-is-blank.ensures in
+pub returns-then-is_blank : goal.returns-then-is_blank
+returns-then-is_blank c =
+    let blank = sym c.if-is_blank.ensures in
     record {
       within = omega arith;
       words = sym c.loop-i.invariant ∙ run_at _ _ c.loop-i-test.true blank;

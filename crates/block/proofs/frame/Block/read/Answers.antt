@@ -14,6 +14,6 @@ returns c =
     let f6 : SFits w16 (get_or ws 6 (pos 0)) = search rules in
     let f7 : SFits w16 (get_or ws 7 (pos 0)) = search rules in
     let f8 : SFits w16 (get_or ws 8 (pos 0)) = search rules in
-    let b = simp to_z-of_z at c.cast-unsigned-bits.ensures in
-    let o = simp to_z-of_z at c.cast-unsigned.ensures in
+    let b = simp to_z-of_z at c.cast_unsigned-bits.ensures in
+    let o = simp to_z-of_z at c.cast_unsigned.ensures in
     simp to_z-of_z (search rules)

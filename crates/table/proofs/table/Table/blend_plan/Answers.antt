@@ -8,4 +8,4 @@ returns c =
     let t = c.args.self.now in
     let none : t.count - 0 ≡ t.count = omega arith in
     let P : List Row → Type 0 = λ rs. Made (record { start = t.start; accel = c.args.accel; decel = c.args.decel; rows = rs }) c.new.result in
-    subst P (ap (λ k. take k c.blend-rows-rows.result) none ∙ c.blend-rows-rows.ensures) c.new.ensures
+    subst P (ap (λ k. take k c.blend_rows-rows.result) none ∙ c.blend_rows-rows.ensures) c.new.ensures

@@ -3,8 +3,8 @@ use Rattle.table.specs.Segments.{row_of}
 use Rattle.table.proofs.SegmentLaws.{rows_length}
 use Rattle.table.proofs.table.Table.blend_rows.Goals as goal
 
-pub plan-rows-requires : goal.plan-rows-requires
-plan-rows-requires c =
+pub plan_rows-requires : goal.plan_rows-requires
+plan_rows-requires c =
     let t = c.args.self.now in
     omega (arith, ap length c.rows.ensures, rows_length t.count t.segments t.places t.few, t.few)
 
@@ -12,4 +12,4 @@ pub returns : goal.returns
 returns c =
     let t = c.args.self.now in
     let n : length c.rows.result.now ≡ t.count = ap length c.rows.ensures ∙ rows_length t.count t.segments t.places t.few in
-    ap (λ k. take k c.plan-rows.result) (sym n) ∙ (c.plan-rows.ensures ∙ ap (map row_of) c.rows.ensures)
+    ap (λ k. take k c.plan_rows.result) (sym n) ∙ (c.plan_rows.ensures ∙ ap (map row_of) c.rows.ensures)

@@ -12,15 +12,15 @@ module _ (c : After-measure) where
   all =
       let t = c.args.self.now in
       let none : t.count - 0 ≡ t.count = omega arith in
-      c.measure.ensures.steps ∙ ap steps_of (ap (λ k. take k c.blend-rows-rows.result) none ∙ c.blend-rows-rows.ensures)
+      c.measure.ensures.steps ∙ ap steps_of (ap (λ k. take k c.blend_rows-rows.result) none ∙ c.blend_rows-rows.ensures)
 
   few : c.measure.result.steps ≤ 134217712
   few =
       let t = c.args.self.now in
       omega (arith, all, sizes_few t.start (take t.count t.segments) t.each, rows_length t.count t.segments t.places t.few, t.few)
 
-pub overflow-cast-result : goal.overflow-cast-result
-overflow-cast-result c = record { fits = omega (arith, few (goal.at.overflow-cast-result c).After-measure) }
+pub overflow_cast-result : goal.overflow_cast-result
+overflow_cast-result c = record { fits = omega (arith, few (goal.at.overflow_cast-result c).After-measure) }
 
 pub returns : goal.returns
 returns c = let a = (goal.at.returns c).After-measure in record { steps = all a; few = few a }

@@ -23,22 +23,17 @@ module _ (c : Start) where
   more : take (t.count + 1) (set t.segments t.count c.args.segment) ≡ take t.count t.segments ++ c.args.segment ∷ []
   more = take_more_set t.segments t.count c.args.segment (omega (arith, t.places, room))
 
-pub invariant-of-self : goal.invariant-of-self
-invariant-of-self c =
-    let a = (goal.at.invariant-of-self c).Start in
-    let P : List Segment → Type 0 = λ ss. are_segments (t a).start ss ≡ true in (
-      (t a).starts,
-      (
-        length-set (t a).segments (t a).count a.args.segment ∙ (t a).places,
-        (
-          omega (arith, room a),
-          (
-            subst P (sym (more a)) (segments_more (t a).start (take (t a).count (t a).segments) a.args.segment (t a).each (fits a).1),
-            (more_enough (t a).ready (t a).count (t a).enough, tt),
-          ),
-        ),
-      ),
-    )
+pub invariant_of-self : goal.invariant_of-self
+invariant_of-self c =
+    let a = (goal.at.invariant_of-self c).Start in
+    let P : List Segment → Type 0 = λ ss. are_segments (t a).start ss ≡ true in
+    record {
+      starts = (t a).starts;
+      places = length-set (t a).segments (t a).count a.args.segment ∙ (t a).places;
+      few = omega (arith, room a);
+      each = subst P (sym (more a)) (segments_more (t a).start (take (t a).count (t a).segments) a.args.segment (t a).each (fits a).1);
+      enough = more_enough (t a).ready (t a).count (t a).enough;
+    }
 
 pub returns : goal.returns
 returns c =
