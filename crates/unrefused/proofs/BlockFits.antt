@@ -72,21 +72,21 @@ module _ (g : ℕ) (m : AxisMeans) where
       let P : Order → Type 0 = λ x. Asked g m x in
       subst P c.1 (untripped u, pace b v e, (some_way m.drive.place target c.0).1)
 
-  absolute_asked : (b : Block) (target v : ℤ) (o : Order) → absolute_asked g m b target v ≡ Ok o → Asked g m o
-  absolute_asked b target v o e =
+  absolute_is_asked : (b : Block) (target v : ℤ) (o : Order) → absolute_asked g m b target v ≡ Ok o → Asked g m o
+  absolute_is_asked b target v o e =
       let p = passes (is_position target && pace_fits g m b v) refusal.Range _ o e in
       let q = passes (not (inhibited m)) refusal.Inhibited _ o p.1 in
       let r = passes (not m.flags.invalid) refusal.PositionInvalid _ o q.1 in
       leg_asked b target v o (and_parts (is_position target) (pace_fits g m b v) p.0).1 q.0 r.1
 
-  relative_asked : (b : Block) (offset v : ℤ) (o : Order) → relative_asked g m b offset v ≡ Ok o → Asked g m o
-  relative_asked b offset v o e =
+  relative_is_asked : (b : Block) (offset v : ℤ) (o : Order) → relative_asked g m b offset v ≡ Ok o → Asked g m o
+  relative_is_asked b offset v o e =
       let p = passes (is_position offset && pace_fits g m b v) refusal.Range _ o e in
       let q = passes (not (inhibited m)) refusal.Inhibited _ o p.1 in
       leg_asked b (m.drive.place +ℤ offset) v o (and_parts (is_position offset) (pace_fits g m b v) p.0).1 q.0 q.1
 
-  resume_asked : (b : Block) (target v : ℤ) (o : Order) → resume_asked g m b target v ≡ Ok o → Asked g m o
-  resume_asked b target v o e =
+  resume_is_asked : (b : Block) (target v : ℤ) (o : Order) → resume_asked g m b target v ≡ Ok o → Asked g m o
+  resume_is_asked b target v o e =
       let p = passes (pace_fits g m b v) refusal.Range _ o e in
       let q = passes (not (inhibited m)) refusal.Inhibited _ o p.1 in
       leg_asked b target v o p.0 q.0 q.1
@@ -108,8 +108,8 @@ module _ (g : ℕ) (m : AxisMeans) where
       let P : Order → Type 0 = λ x. Asked g m x in
       subst P (same (order.Dwell (run_of b)) o l.1) (untripped q.0, r, c.0)
 
-  segment_asked : (d v : ℤ) (o : Order) → programs m.state ≡ true → segment_asked g m d v ≡ Ok o → Asked g m o
-  segment_asked d v o r e =
+  segment_is_asked : (d v : ℤ) (o : Order) → programs m.state ≡ true → segment_asked g m d v ≡ Ok o → Asked g m o
+  segment_is_asked d v o r e =
       let p = passes _ refusal.Range (Ok (order.Segment (record { distance = d; speed = nat_abs v }))) o e in
       let a = and_parts (not (eqb (nat_abs d) 0)) _ p.0 in
       let c = and_parts (is_position d) (speed_fits g m v) a.1 in
@@ -127,7 +127,7 @@ module _ (g : ℕ) (m : AxisMeans) where
 
   resumes_asked : (t : Option ℤ) (b : Block) (o : Order) → on_held t (resume_judged g m b) ≡ Ok o → Asked g m o
   resumes_asked None b o e = let z : ◌≡◌ {A = ℕ} 0 1 = cc in absurd (omega arith)
-  resumes_asked (Some target) b o e = let q = hears (decoded b.speed) _ o e in resume_asked b target q.0 o q.1
+  resumes_asked (Some target) b o e = let q = hears (decoded b.speed) _ o e in resume_is_asked b target q.0 o q.1
 
   runs_asked : (dwells : Bool) (b : Block) (o : Order) → m.table.ready ≡ true → cond dwells (dwell_judged m b) (blend_judged m b) ≡ Ok o → Asked g m o
   runs_asked true b o r e = dwell_asked b o r e
@@ -137,11 +137,11 @@ module _ (g : ℕ) (m : AxisMeans) where
   values_asked b command.Absolute o a e =
       let p = hears (decoded b.place) _ o e in
       let q = hears (decoded b.speed) _ o p.1 in
-      absolute_asked b p.0 q.0 o q.1
+      absolute_is_asked b p.0 q.0 o q.1
   values_asked b command.Relative o a e =
       let p = hears (decoded b.place) _ o e in
       let q = hears (decoded b.speed) _ o p.1 in
-      relative_asked b p.0 q.0 o q.1
+      relative_is_asked b p.0 q.0 o q.1
   values_asked b command.Hold o a e = plainly order.Hold o tt e
   values_asked b command.Resume o a e = resumes_asked (held_target m.state) b o e
   values_asked b command.Stop o a e = plainly order.Stop o tt e
@@ -151,7 +151,7 @@ module _ (g : ℕ) (m : AxisMeans) where
   values_asked b command.Segment o a e =
       let p = hears (decoded b.place) _ o e in
       let q = hears (decoded b.speed) _ o p.1 in
-      segment_asked p.0 q.0 o (and_parts (programs m.state) (has_room m.table) a).0 q.1
+      segment_is_asked p.0 q.0 o (and_parts (programs m.state) (has_room m.table) a).0 q.1
   values_asked b command.Run o a e =
       let p = and_parts (rests m.state) _ a in
       runs_asked (is_dwell_of b) b o (and_parts (not m.flags.configuration) m.table.ready p.1).1 e

@@ -4,8 +4,8 @@ use Rattle.unrefused.proofs.CallFits.{starts_fit, setup_fits, code_fits}
 use Rattle.unrefused.proofs.TickFits.{tick_fits}
 use Rattle.unrefused.specs.Fits.{DriveTakesAll}
 
-pub takes_all : DriveTakesAll
-takes_all g l h =
+pub drives_take_all : DriveTakesAll
+drives_take_all g l h =
     record {
       begins = starts_fit g l;
       set_up = setup_fits g;

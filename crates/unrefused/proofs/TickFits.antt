@@ -65,8 +65,8 @@ module _ (g : ℕ) where
 
   -- the tick that begins a row of a dwell move
   module _ (m : AxisMeans) (run : DwellRun) (row : ℕ) (p : ProfileMeans) (f : TableFits g m.table) (here : is_position m.drive.place ≡ true) (pause : InPause m.drive m.table run row) (s : Sound p) where
-    row_plan : is_plan (row_of_run m run row) ≡ true
-    row_plan = lawful_plan (row_of_run m run row) (row_lawful g m.drive m.table run row f pause)
+    row_is_plan : is_plan (row_of_run m run row) ≡ true
+    row_is_plan = lawful_plan (row_of_run m run row) (row_lawful g m.drive m.table run row f pause)
 
     row_ticks :
         FirstTick m.profile (row_of_run m run row) p
@@ -88,8 +88,8 @@ module _ (g : ℕ) where
         → MatchBool over ((is_plan (row_of_run m run row) ≡ true) × (takes_all g m.drive (due (row_travel m run row).direction 0 p) ≡ true)) (Unit {0})
         × Fit g (cond over (row_begun g m run row p) (with_state m (Pausing run row ticks)))
     pause_ticks true ticks t =
-        let r = row_ticks (when_true _ _ row_plan t) in
-        ((row_plan, r.0), first Kept _ _ (stopped m) row_plan r.1)
+        let r = row_ticks (when_true _ _ row_is_plan t) in
+        ((row_is_plan, r.0), first Kept _ _ (stopped m) row_is_plan r.1)
     pause_ticks false ticks t = (tt, record { table = f; underway = pause })
 
   tick_state :

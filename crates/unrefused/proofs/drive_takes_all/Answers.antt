@@ -1,5 +1,5 @@
-use Rattle.unrefused.proofs.Fitness.{takes_all}
+use Rattle.unrefused.proofs.Fitness.{drives_take_all}
 use Rattle.unrefused.proofs.drive_takes_all.Goals as goal
 
 pub returns : goal.returns
-returns c = takes_all
+returns c = drives_take_all

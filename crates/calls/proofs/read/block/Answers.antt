@@ -8,12 +8,12 @@ use Rattle.calls.proofs.read.block.Goals as goal
 pub loop-text-preserved : goal.loop-text-preserved
 loop-text-preserved c =
     let xs = vec_items c.loop-text.block in
-    let v = c.in-ok-value.value in
+    let v = c.in_ok-value.value in
     let word = c.in-Some.ensures in
-    let rest = words_left c.next-word.new.self in
+    let rest = words_left c.next_word.new.self in
     let fits : SFits w16 v = search rules in
-    let pushed = c.in-ok-push.ensures.items in
+    let pushed = c.in_ok-push.ensures.items in
     let items : vec_items c.push.new.self ≡ xs ++ v ∷ [] = cc (to_z-of_z w16 v fits) in
     ap (λ l. onto l (block_of rest)) items
-    ∙ block_more xs (words_left c.loop-text.words) rest c.in-Some.text.now c.word.result word.word word.left c.word.ensures v c.in-ok-value.ensures.ok-part
+    ∙ block_more xs (words_left c.loop-text.words) rest c.in-Some.text.now c.word.result word.word word.left c.word.ensures v c.in_ok-value.ensures.ok_part
     ∙ c.loop-text.invariant
