@@ -15,6 +15,7 @@ use anyhow::anyhow;
 use run::run;
 use std::env;
 use std::io::Read;
+use std::process::ExitCode;
 
 // Whether every tick is to be shown.
 fn every_tick(rt: &HostRuntime) -> anyhow::Result<bool> {
@@ -28,13 +29,13 @@ fn every_tick(rt: &HostRuntime) -> anyhow::Result<bool> {
     Ok(shown)
 }
 
-fn main(rt: HostRuntime) -> anyhow::Result<()> {
+fn main(rt: HostRuntime) -> anyhow::Result<ExitCode> {
     let shown = every_tick(&rt)?;
     let mut script = Vec::new(rt.alloc());
     rt.stdin().read_to_end(&mut script)?;
     if run(&rt, script.as_slice(), shown)? {
-        Ok(())
+        Ok(ExitCode::SUCCESS)
     } else {
-        Err(anyhow!("a line was refused"))
+        Ok(ExitCode::FAILURE)
     }
 }

@@ -10,16 +10,19 @@ mod run;
 mod show;
 mod unread;
 
-use anyhow::anyhow;
 use read::read_script;
 use run::run;
 use std::io::Read;
+use std::process::ExitCode;
 
-fn main(rt: HostRuntime) -> anyhow::Result<()> {
+fn main(rt: HostRuntime) -> anyhow::Result<ExitCode> {
     let mut text = Vec::new(rt.alloc());
     rt.stdin().read_to_end(&mut text)?;
     match read_script(&rt, text.as_slice())? {
-        Some(script) => Ok(run(&rt, &script)?),
-        None => Err(anyhow!("the script cannot be read")),
+        Some(script) => {
+            run(&rt, &script)?;
+            Ok(ExitCode::SUCCESS)
+        }
+        None => Ok(ExitCode::FAILURE),
     }
 }
