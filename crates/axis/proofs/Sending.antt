@@ -1,5 +1,5 @@
 -- A delivery, as the steps that reach the drive or none.
-use Rattle.std.proofs.Common.{◌≡◌, ℕ, suc, true, false, cond, ◌||◌, eqb, ◌⊎◌, ℤ, pos, negsuc, nat_abs, is_ok, Some, None, Ok, Err, Option, Result, sym, refl, ap, ◌∙◌, ⊎_elim, arith}
+use Rattle.std.proofs.Common.{◌≡◌, ℕ, suc, true, false, cond, ◌||◌, eqb, ℤ, pos, negsuc, nat_abs, is_ok, Some, None, Ok, Err, Option, Result, sym, refl, ap, ◌∙◌, ⊎_elim, arith}
 use Rattle.std.proofs.lemmas.Bool.{cases_Bool, eqb-true, eqb-false, cond-true, cond-false}
 use Rattle.drive.specs.Deliveries.{Delivered}
 use Rattle.drive.specs.Drives.{DriveMeans, landing, answering}

@@ -10,7 +10,6 @@ use Rattle.block.specs.Pairs.{decoded}
 use Rattle.block.specs.declared.command.Command.{Command}
 use Rattle.block.specs.declared.command.Command.TheVariants as command
 use Rattle.block.specs.declared.frame.Block.{Block}
-use Rattle.block.specs.declared.pair.Pair.{Pair}
 use Rattle.block.specs.declared.refusal.Refusal.{Refusal}
 use Rattle.block.specs.declared.refusal.Refusal.TheVariants as refusal
 use Rattle.table.specs.Courses.{goes_to, stays_on, is_clear, are_clear}

@@ -7,7 +7,6 @@ use Rattle.text.specs.Decimals.{natural_of, number_of, word_of}
 use Rattle.text.specs.Texts.{uncommented, words_of}
 use Rattle.calls.specs.declared.fault.LineFault.{LineFault}
 use Rattle.calls.specs.declared.fault.LineFault.TheVariants.{UnknownCommand, UnknownDrive, UnknownProfile, MissingWord, ExtraWord, NotANumber}
-use Rattle.calls.specs.declared.line.BaseProfile.{BaseProfile}
 use Rattle.calls.specs.declared.line.BaseProfile.TheVariants.{Creep, Ramp}
 use Rattle.calls.specs.declared.line.DriveKind.{DriveKind}
 use Rattle.calls.specs.declared.line.DriveKind.TheVariants.{Pulse, Phase}

@@ -20,7 +20,6 @@ use Rattle.block.specs.declared.refusal.Refusal.{Refusal}
 use Rattle.block.specs.declared.refusal.Refusal.TheVariants as refusal
 use Rattle.table.specs.Courses.{stays_on, are_clear}
 use Rattle.table.specs.Tables.{TableMeans, closed, has_room}
-use Rattle.table.specs.declared.segment.Segment.{Segment}
 use Rattle.unrefused.proofs.CallFits.{either, stop_fits, eased_fits}
 use Rattle.unrefused.proofs.Motions.{begins, brakes}
 use Rattle.axis.proofs.Readiness.{Sane, passes, hears, same, within, some_way, course, judged_ready}

@@ -1,6 +1,5 @@
 use Rattle.std.proofs.Common.{◌≡◌, ℕ, suc, ◌+◌, ◌*◌, List, [], ◌∷◌, ◌++◌, get_or, sym, refl, ap, ◌∙◌, arith, length-set}
 use Rattle.std.proofs.lemmas.List.{take_more_set}
-use Rattle.profile.specs.declared.row.Row.{Row}
 use Rattle.bench.specs.Flat.{rows_in}
 use Rattle.bench.proofs.plans.plan_of.Goals as goal
 

@@ -1,6 +1,5 @@
-use Rattle.std.proofs.Common.{◌≡◌, sym, refl, ap, ◌∙◌, arith}
+use Rattle.std.proofs.Common.{sym, refl, ap, ◌∙◌, arith}
 use Rattle.std.proofs.lemmas.Bool.{eqb-true, eqb-false}
-use Rattle.bench.proofs.run.run_plan.Given as given
 use Rattle.bench.proofs.run.run_plan.Goals as goal
 
 pub loop-profile-init : goal.loop-profile-init

@@ -1,5 +1,5 @@
 use Rattle.std.proofs.Common.{sym, ◌∙◌, arith}
-use Rattle.text.proofs.TextLaws.{run_more, run_at, run_all, run_whole}
+use Rattle.text.proofs.TextLaws.{run_more, run_at, run_whole}
 use Rattle.text.proofs.text.run_len.Goals as goal
 
 pub loop-i-preserved : goal.loop-i-preserved
