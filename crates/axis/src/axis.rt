@@ -3,7 +3,7 @@ use crate::flags::{Flags, Levels, Pace};
 use crate::state::State;
 use table::table::Table;
 
-mod block;
+mod answer;
 mod carry;
 mod event;
 mod judge;
