@@ -1,4 +1,4 @@
-// What C or Rust can call. Rows stand as steps, speed, steps, speed, .. . A call writes the number of ticks and then the sum over
+// What `bench_c` exports to C and Rust. Rows stand as steps, speed, steps, speed, .. . A call writes the number of ticks and then the sum over
 // the advances to the front of `out`; where there is no such plan, or no room for both, it leaves `out` alone.
 ghost use Rattle.std.specs.Prelude.{◌≡◌, ◌<◌, ◌≤◌, ◌∷◌, length, drop, Some};
 ghost use Rattle.profile.specs.Plans.{plan_fault};
