@@ -5,4 +5,5 @@ pub mod PhaseDrives
 pub mod Phases
 pub mod Positions
 pub mod PulseDrives
+pub mod Steppers
 pub mod Tokens

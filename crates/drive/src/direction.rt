@@ -2,6 +2,8 @@
 ghost use Rattle.std.specs.Prelude.{◌≡◌, min};
 ghost use Rattle.drive.specs.Directions.{signed as signed_of, last_direction, toward as toward_of};
 
+use std::cmp::Ordering;
+
 #[derive(Clone, Copy, PartialEq, Eq, Debug)]
 pub enum Direction {
     Cw,
@@ -13,7 +15,7 @@ impl Direction {
     pub fn signed(self, steps: u64) -> i32
         ensures { result ≡ signed_of self (min steps 2147483647) }
     {
-        let size = steps.min(2_147_483_647) as i32;
+        let size = i32::try_from(steps).unwrap_or(i32::MAX);
         match self {
             Direction::Cw => size,
             Direction::Ccw => -size,
@@ -24,12 +26,10 @@ impl Direction {
     pub fn after(self, n: i32) -> Direction
         ensures { result ≡ last_direction self n }
     {
-        if n > 0 {
-            Direction::Cw
-        } else if n < 0 {
-            Direction::Ccw
-        } else {
-            self
+        match n.cmp(&0) {
+            Ordering::Greater => Direction::Cw,
+            Ordering::Less => Direction::Ccw,
+            Ordering::Equal => self,
         }
     }
 

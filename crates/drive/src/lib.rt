@@ -3,10 +3,12 @@
 
 pub mod direction;
 pub mod fault;
+pub mod output;
 pub mod phase;
 pub mod position;
 pub mod pulse;
 pub mod send;
+pub mod stepper;
 #[cfg(test)]
 mod tests;
 pub mod token;

@@ -1,4 +1,8 @@
 // The drives and the token on examples.
+ghost use Rattle.std.specs.Prelude.{◌≡◌};
+ghost use Rattle.drive.specs.PhaseDrives.{phase_of, phase_after};
+ghost use Rattle.drive.specs.PulseDrives.{line_of, line_after};
+
 use crate::direction::Direction;
 use crate::fault::DriveFault;
 use crate::phase::PhaseDrive;
@@ -6,6 +10,19 @@ use crate::position::{FARTHEST, distance, is_position};
 use crate::pulse::PulseDrive;
 use crate::token::StepToken;
 use crate::traits::Drive;
+
+// What an advance of any stepper promises of its output, said of each kind.
+fn advance_pulse(drive: &mut PulseDrive, n: i32) -> Result<(), DriveFault>
+    ensures { line_of drive.new ≡ line_after drive.old n }
+{
+    drive.advance(n)
+}
+
+fn advance_phase(drive: &mut PhaseDrive, n: i32) -> Result<(), DriveFault>
+    ensures { phase_of drive.new ≡ phase_after drive.old n }
+{
+    drive.advance(n)
+}
 
 #[test]
 fn positions_end_at_both_sides(rt: HostRuntime) {
@@ -20,9 +37,9 @@ fn positions_end_at_both_sides(rt: HostRuntime) {
 fn pulse_drive_keeps_its_line(rt: HostRuntime) {
     let mut drive = PulseDrive::new();
     assert_eq!(rt; drive.line(), Direction::Cw);
-    assert!(rt; drive.advance(-200).is_ok());
+    assert!(rt; advance_pulse(&mut drive, -200).is_ok());
     assert!(rt; drive.advance(0).is_ok());
-    assert_eq!(rt; drive.advance(201), Err(DriveFault::TooFar));
+    assert_eq!(rt; advance_pulse(&mut drive, 201), Err(DriveFault::TooFar));
     assert!(rt; drive.set(8_388_600).is_ok());
     assert_eq!(rt; drive.advance(8), Err(DriveFault::NoPosition));
     assert_eq!(rt; drive.line(), Direction::Ccw);
@@ -51,9 +68,9 @@ fn phase_drive_goes_twenty_steps_at_once(rt: HostRuntime) {
     let mut drive = PhaseDrive::new();
     assert_eq!(rt; drive.coils(), 1);
     assert_eq!(rt; drive.advance(21), Err(DriveFault::TooFar));
-    assert_eq!(rt; drive.advance(-21), Err(DriveFault::TooFar));
+    assert_eq!(rt; advance_phase(&mut drive, -21), Err(DriveFault::TooFar));
     assert_eq!(rt; drive.phase(), 0);
-    assert!(rt; drive.advance(20).is_ok());
+    assert!(rt; advance_phase(&mut drive, 20).is_ok());
     assert_eq!(rt; (drive.place(), drive.phase(), drive.coils()), (20, 4, 2));
     assert!(rt; drive.set(-500).is_ok());
     assert_eq!(rt; (drive.place(), drive.phase()), (-500, 4));

@@ -9,18 +9,14 @@ pub trait Drive {
     // The most steps that this kind of drive goes at once.
     const G: u32;
 
-    ghost reach: { ℕ };
+    ghost G: { ℕ };
 
     // Its place, and whether it is tripped.
     ghost means: { Self → DriveMeans };
 
-    // `G`, as code over any drive asks for it.
-    fn reach() -> u32
-        ensures { result ≡ reach };
-
     // Goes `n` steps at once, clockwise where `n` is positive.
     fn advance(&mut self, n: i32) -> Result<(), DriveFault>
-        ensures moved { Moved (means self.old) (landing reach (means self.old) n) tt result (means self.new) }
+        ensures moved { Moved (means self.old) (landing G (means self.old) n) tt result (means self.new) }
         ensures refused { is_ok result ≡ false → self.new ≡ self.old };
 
     // Calls the place where it stands `p`.
@@ -40,7 +36,7 @@ pub trait Drive {
     fn tripped(&self) -> bool
         ensures { result ≡ (means self.now).tripped };
 
-    ghost bounded: { (1 ≤ reach) × (reach ≤ 200) };
+    ghost bounded: { (1 ≤ G) × (G ≤ 200) };
 
     ghost placed: { (d : Self) → is_position (means d).place ≡ true };
 }
