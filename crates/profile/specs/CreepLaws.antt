@@ -1,10 +1,10 @@
 -- Creep is a profile.
 use Rattle.std.specs.Prelude.{◌≡◌, ℕ, ◌+◌, ◌-◌, ◌<◌, ◌≤◌, min, Some, None, Option, refl}
-use Rattle.std.proofs.Common.{ap, ⊎_elim, arith}
+use Rattle.std.proofs.Common.{⊎_elim, arith}
 use Rattle.std.proofs.lemmas.Bool.{cases_lt}
 use Rattle.profile.specs.Creeping.{creeping}
 use Rattle.profile.specs.Plans.{plan_of, way_of}
-use Rattle.profile.specs.Profiles.{ProfileMeans, Sound, Ticked, Braked, start_of, up_div}
+use Rattle.profile.specs.Profiles.{ProfileMeans, Sound, Ticked, start_of, up_div}
 use Rattle.profile.specs.declared.plan.Plan.{Plan}
 use Rattle.profile.specs.PlanLaws.{lawful_of, way_near, starts_some, start_top}
 use Rattle.profile.specs.UpDivs.{up_div_zero, up_div_less, up_div_pos}
@@ -64,17 +64,4 @@ module _ (o : Option Plan) (asked gone : ℕ) (reached : gone ≤ asked) (within
         idle = λ z. omega (arith, left_done z);
         within = omega (arith, start_top (plan_of o) (lawful_of o));
         after = rw (left_less r e);
-      }
-
-  pub brakes : Braked here (creeping (plan_of o) gone gone)
-  brakes =
-      let z : gone - gone ≡ 0 = omega arith in
-      let y : up_div (gone - gone) start ≡ 0 = rw z (up_div_zero start) in
-      record {
-        after = refl;
-        less = reached;
-        kept = omega arith;
-        sooner = omega arith;
-        soon = omega arith;
-        blank = λ e. let w = way_none o e in let g : gone ≡ asked = omega arith in ap (λ a. creeping (plan_of o) a gone) g;
       }

@@ -2,8 +2,10 @@ pub mod Creeping
 pub mod Creeps
 pub mod Plans
 pub mod Profiles
+pub mod Progresses
 pub mod Ranges
 pub mod Rows
+pub mod RowLists
 pub mod CreepLaws
 pub mod PlanLaws
 pub mod RowLaws

@@ -14,7 +14,7 @@ pub record PlanMeans : Type 0 where
   pub rows : List Row
 
 abbrev pub plan_means : Plan → PlanMeans
-plan_means p = record { start = p.start; accel = p.accel; decel = p.decel; rows = take p.count p.rows }
+plan_means p = record { start = p.start; accel = p.rates.accel; decel = p.rates.decel; rows = take p.count p.rows }
 
 abbrev pub plan_steps : PlanMeans → ℕ
 plan_steps m = steps_of m.rows

@@ -2,8 +2,12 @@
 #![tactic(auto)]
 
 pub mod creep;
+pub mod extent;
 pub mod fault;
+pub mod list;
 pub mod plan;
+pub mod progress;
+pub mod rates;
 pub mod row;
 #[cfg(test)]
 mod tests;

@@ -2,25 +2,26 @@
 ghost use Rattle.std.specs.Prelude.{◌≡◌, ◌≤◌, true, length, take};
 ghost use Rattle.profile.specs.Rows.{are_rows, steps_of, top_of};
 
+use crate::rates::Rates;
 use crate::row::Row;
 
 mod calls;
 mod make;
 mod rows;
 
-// The first `count` of `rows` are the plan's; `steps` and `top` are kept so that nothing goes over the rows again.
+// The first `count` of `rows` are the plan's; no `RowList`, since a generic struct over a profile gets no proof with a model inside.
+// `steps` and `top` are kept so that nothing goes over the rows again.
 #[derive(Clone, Copy)]
 pub struct Plan {
     start: u32,
-    accel: u32,
-    decel: u32,
+    rates: Rates,
     rows: [Row; 16],
     count: usize,
     steps: u32,
     top: u32,
     ghost starts: { 1 ≤ start },
-    ghost gains: { (1 ≤ accel) × (accel ≤ 5000) },
-    ghost slows: { (1 ≤ decel) × (decel ≤ 5000) },
+    ghost gains: { (1 ≤ rates.accel) × (rates.accel ≤ 5000) },
+    ghost slows: { (1 ≤ rates.decel) × (rates.decel ≤ 5000) },
     ghost some: { 1 ≤ length (take count rows) },
     ghost few: { count ≤ 16 },
     ghost each: { are_rows start (take count rows) ≡ true },

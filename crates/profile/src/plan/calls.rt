@@ -3,6 +3,7 @@ ghost use Rattle.std.specs.Prelude.{◌≡◌};
 ghost use Rattle.profile.specs.Plans.{plan_means, plan_steps, plan_top};
 
 use super::Plan;
+use crate::rates::Rates;
 use crate::row::Row;
 
 impl Plan {
@@ -17,20 +18,27 @@ impl Plan {
     pub fn accel(&self) -> u32
         ensures { result ≡ (plan_means self.now).accel }
     {
-        self.accel
+        self.rates.accel
     }
 
     // The most that the speed falls by in a tick.
     pub fn decel(&self) -> u32
         ensures { result ≡ (plan_means self.now).decel }
     {
-        self.decel
+        self.rates.decel
+    }
+
+    pub fn rates(&self) -> Rates
+        ensures accel { result.accel ≡ (plan_means self.now).accel }
+        ensures decel { result.decel ≡ (plan_means self.now).decel }
+    {
+        self.rates
     }
 
     pub fn rows(&self) -> &[Row]
         ensures { result.now ≡ (plan_means self.now).rows }
     {
-        &self.rows[0..self.count]
+        &self.rows[..self.count]
     }
 
     // The steps of all rows.

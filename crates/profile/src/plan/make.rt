@@ -3,27 +3,31 @@ ghost use Rattle.std.specs.Prelude.{◌≡◌};
 ghost use Rattle.profile.specs.Plans.{Made};
 
 use super::Plan;
-use super::rows::{are_rows, copied, measure};
+use super::rows::are_rows;
+use crate::extent::measure;
 use crate::fault::PlanFault;
+use crate::list::RowList;
+use crate::rates::Rates;
 use crate::row::Row;
 
 impl Plan {
     // A plan of these rows, or the first reason why there is none.
-    pub fn new(start: u32, accel: u32, decel: u32, rows: &[Row]) -> Result<Plan, PlanFault>
-        ensures { Made (record { start = start; accel = accel; decel = decel; rows = rows.now }) result }
+    pub fn new(start: u32, rates: Rates, rows: &[Row]) -> Result<Plan, PlanFault>
+        ensures { Made (record { start = start; accel = rates.accel; decel = rates.decel; rows = rows.now }) result }
     {
         if start < 1 {
             return Err(PlanFault::Start);
         }
-        if accel < 1 || accel > 5000 {
+        if !(1..=5000).contains(&rates.accel) {
             return Err(PlanFault::Acceleration);
         }
-        if decel < 1 || decel > 5000 {
+        if !(1..=5000).contains(&rates.decel) {
             return Err(PlanFault::Deceleration);
         }
-        if rows.is_empty() || rows.len() > 16 {
+        if rows.is_empty() {
             return Err(PlanFault::RowCount);
         }
+        let (places, count) = RowList::of(rows).ok_or(PlanFault::RowCount)?.into_places();
         if !are_rows(start, rows) {
             return Err(PlanFault::Row);
         }
@@ -33,10 +37,9 @@ impl Plan {
         }
         Ok(Plan {
             start,
-            accel,
-            decel,
-            rows: copied(rows),
-            count: rows.len(),
+            rates,
+            rows: places,
+            count,
             steps: all.steps as u32,
             top: all.top,
         })

@@ -1,6 +1,6 @@
 use Rattle.std.proofs.Common.{◌≡◌, ◌+◌, ◌*◌, ◌^◌, ◌≤◌, max, drop}
 use Rattle.profile.specs.Rows.{steps_of, top_of}
-use Rattle.profile.proofs.plan.rows.measure.Given as goal
+use Rattle.profile.proofs.extent.measure.Given as goal
 
 abbrev pub invariant-loop-row : goal.invariant-loop-row
 invariant-loop-row l =
