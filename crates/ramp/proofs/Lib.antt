@@ -1,2 +1,1 @@
 pub mod BrakingForm
-pub mod Halving

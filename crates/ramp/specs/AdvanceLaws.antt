@@ -1,7 +1,7 @@
 -- The advance is the greatest that may be, and what follows from that.
 use Rattle.std.specs.Prelude.{◌≡◌, ℕ, ◌+◌, ◌-◌, ◌<◌, ◌≤◌, min, max, Bool, true, nat_le}
-use Rattle.std.proofs.Common.{⊎_elim, arith}
-use Rattle.std.proofs.lemmas.Bool.{cases_lt, le-leb, leb-true}
+use Rattle.std.proofs.Common.{arith}
+use Rattle.std.proofs.lemmas.Bool.{le-leb, leb-true}
 use Rattle.ramp.specs.Advances.{May, Greatest, greatest_to, advance}
 use Rattle.ramp.specs.Braking.{braking}
 use Rattle.ramp.specs.BrakingLaws.{braking_low, braking_high, braking_above, stop_rises}
@@ -43,12 +43,4 @@ module _ (S A D V v R : ℕ) where
   pub advance_braked : 0 < D → R ≡ braking S D v → 0 < braking S D v → advance S A D V v R ≡ v - D
   advance_braked d r p =
       let at_least : v - D ≤ advance S A D V v R = advance_falls d (omega arith) p in
-      ⊎_elim
-      (λ l. omega (
-        arith,
-        stop_rises S D d (v - D) (advance S A D V v R) l,
-        advance_stops,
-        braking_high S D d v (braking_above S D d v p),
-      ))
-      (λ l. omega arith)
-      (cases_lt (v - D) (advance S A D V v R))
+      grind (arith, stop_rises S D d (v - D) (advance S A D V v R), advance_stops, braking_high S D d v (braking_above S D d v p))

@@ -1,12 +1,10 @@
 -- The braking distance: the rule's two sentences, that it rises with the speed, and how far it reaches.
 use Rattle.std.specs.Prelude.{◌≡◌, ℕ, zero, suc, ◌+◌, ◌-◌, ◌*◌, ◌<◌, ◌≤◌}
-use Rattle.std.proofs.Math.Path.{refl, sym, ap}
-use Rattle.std.proofs.Common.{◌∙◌}
-use Rattle.std.proofs.Math.Logic.{⊎_elim}
+use Rattle.std.proofs.Math.Path.{refl, sym}
 use Rattle.std.proofs.Math.Nat.{zero-mul, suc-mul, mul-le-mul_left}
 use native.Mathlib.Omega.{arith}
 use Rattle.std.proofs.lemmas.Nat.{mul-le}
-use Rattle.std.proofs.lemmas.Bool.{le-leb, lt-leb, cases_lt}
+use Rattle.std.proofs.lemmas.Bool.{le-leb, lt-leb}
 use Rattle.ramp.specs.Braking.{braking_in, braking, BrakingRule}
 
 module _ (S D : ℕ) where
@@ -22,21 +20,14 @@ module _ (S D : ℕ) where
   rises_in : (n u x : ℕ) → u ≤ x → braking_in n S D u ≤ braking_in n S D x
   unfolding braking_in
   rises_in zero u x h = omega arith
-  rises_in (suc n) u x h =
-      ⊎_elim
-      (λ l. omega (arith, high_in n u l, high_in n x (omega arith), rises_in n (u - D) (x - D) (omega arith)))
-      (λ l. omega (arith, low_in (suc n) u l))
-      (cases_lt S u)
+  rises_in (suc n) u x h = grind (arith, high_in, low_in, rises_in n (u - D) (x - D))
 
   small_in : (n u : ℕ) → braking_in n S D u ≤ n * u
   unfolding braking_in
   small_in zero u = omega (arith, zero-mul u)
   small_in (suc n) u =
       let le : n * (u - D) ≤ n * u = mul-le-mul_left n (omega arith) in
-      ⊎_elim
-      (λ h. omega (arith, high_in n u h, suc-mul n u, small_in n (u - D)))
-      (λ h. omega (arith, low_in (suc n) u h))
-      (cases_lt S u)
+      grind (arith, high_in n u, low_in (suc n) u, suc-mul n u, small_in n (u - D))
 
   pub braking_low : (u : ℕ) → u ≤ S → braking S D u ≡ 0
   unfolding braking
@@ -52,19 +43,11 @@ module _ (S D : ℕ) (d : 0 < D) where
   unfolding braking_in
   enough zero m u p q = sym (low_in S D m u (omega arith))
   enough (suc n) zero u p q = low_in S D (suc n) u (omega arith)
-  enough (suc n) (suc m) u p q =
-      ⊎_elim
-      (λ (h : S < u).
-      high_in S D n u h
-      ∙ (ap (λ x. (u - D) + x) (enough n m (u - D) (omega arith) (omega arith)) ∙ sym (high_in S D m u h)))
-      (λ h. low_in S D (suc n) u h ∙ sym (low_in S D (suc m) u h))
-      (cases_lt S u)
+  enough (suc n) (suc m) u p q = grind (arith, high_in S D n u, high_in S D m u, low_in S D (suc n) u, low_in S D (suc m) u, enough n m (u - D))
 
   pub braking_high : (u : ℕ) → S < u → braking S D u ≡ (u - D) + braking S D (u - D)
   unfolding braking
-  braking_high u h =
-      enough u (suc u) u (omega arith) (omega arith)
-      ∙ (high_in S D u u h ∙ ap (λ x. (u - D) + x) (enough u (u - D) (u - D) (omega arith) (omega arith)))
+  braking_high u h = omega (arith, enough u (suc u) u, high_in S D u u h, enough u (u - D) (u - D))
 
   pub braking_rule : (u : ℕ) → BrakingRule S D u
   braking_rule u = record { low = braking_low S D u; high = braking_high u }
@@ -75,7 +58,7 @@ module _ (S D : ℕ) (d : 0 < D) where
 
   -- a speed with a braking distance is above the start
   pub braking_above : (u : ℕ) → 0 < braking S D u → S < u
-  braking_above u p = ⊎_elim (λ l. l) (λ l. absurd (omega (arith, braking_low S D u l))) (cases_lt S u)
+  braking_above u p = grind (arith, braking_low S D u)
 
   -- the way to a stop, the tick at u included, is longer for a greater u
   pub stop_rises : (u x : ℕ) → u < x → u + braking S D u < x + braking S D x

@@ -1,10 +1,7 @@
 -- The greatest number with a property.
-use Rattle.std.specs.Prelude.{◌≡◌, ℕ, zero, suc, ◌<◌, ◌≤◌, Bool, true, false}
-use Rattle.std.proofs.Math.Path.{refl, ap}
-use Rattle.std.proofs.Common.{◌∙◌}
-use Rattle.std.proofs.Math.Logic.{⊎_elim}
+use Rattle.std.specs.Prelude.{◌≡◌, ℕ, zero, suc, ◌≤◌, Bool, true, false}
+use Rattle.std.proofs.Math.Path.{refl}
 use native.Mathlib.Omega.{arith}
-use Rattle.std.proofs.lemmas.Bool.{cases_Bool, cases_lt, both_ways}
 use Rattle.ramp.specs.Advances.{Greatest, greatest_to}
 
 -- there is one at most
@@ -23,28 +20,13 @@ module _ (test : ℕ → Bool) where
   pub greatest_passes : (n : ℕ) → test 0 ≡ true → test (greatest_to n test) ≡ true
   unfolding greatest_to
   greatest_passes zero h = h
-  greatest_passes (suc n) h =
-      ⊎_elim
-      (λ e. ap test (here n e) ∙ e)
-      (λ e. ap test (below n e) ∙ greatest_passes n h)
-      (cases_Bool (test (suc n)))
+  greatest_passes (suc n) h = grind (arith, here n, below n, greatest_passes n h)
 
   pub greatest_within : (n : ℕ) → greatest_to n test ≤ n
   unfolding greatest_to
   greatest_within zero = omega arith
-  greatest_within (suc n) =
-      ⊎_elim
-      (λ e. omega (arith, here n e))
-      (λ e. omega (arith, below n e, greatest_within n))
-      (cases_Bool (test (suc n)))
+  greatest_within (suc n) = grind (arith, here n, below n, greatest_within n)
 
   pub greatest_most : (n x : ℕ) → x ≤ n → test x ≡ true → x ≤ greatest_to n test
   greatest_most zero x h t = omega arith
-  greatest_most (suc n) x h t =
-      ⊎_elim
-      (λ e. omega (arith, here n e))
-      (λ e. ⊎_elim
-      (λ (l : x < suc n). omega (arith, below n e, greatest_most n x (omega arith) t))
-      (λ (l : suc n ≤ x). let z : x ≡ suc n = omega arith in absurd (both_ways (test x) (ap test z ∙ e) t))
-      (cases_lt x (suc n)))
-      (cases_Bool (test (suc n)))
+  greatest_most (suc n) x h t = grind (arith, here n, below n, greatest_most n x)

@@ -1,12 +1,12 @@
 -- The ticks left in a plan.
 use Rattle.std.specs.Prelude.{◌≡◌, ℕ, zero, suc, ◌+◌, ◌-◌, ◌*◌, ◌<◌, ◌≤◌, min}
 use Rattle.std.proofs.Math.Path.{refl, sym, ap}
-use Rattle.std.proofs.Common.{◌∙◌, suc-mul}
-use Rattle.std.proofs.Math.Logic.{⊎_elim}
+use Rattle.std.proofs.Common.{suc-mul}
+use Rattle.std.proofs.lemmas.Grind.{common_steps}
 use Rattle.std.proofs.Math.Nat.{zero-mul}
 use native.Mathlib.Omega.{arith}
 use Rattle.std.proofs.lemmas.Nat.{le-div}
-use Rattle.std.proofs.lemmas.Bool.{cases_lt, lt-ltb, le-ltb}
+use Rattle.std.proofs.lemmas.Bool.{lt-ltb, le-ltb}
 use Rattle.profile.specs.Plans.{PlanMeans, Lawful, plan_steps}
 use Rattle.profile.specs.Profiles.{up_div}
 use Rattle.ramp.specs.Braking.{braking}
@@ -18,12 +18,6 @@ use Rattle.ramp.specs.SpeedLaws.{speed_least}
 
 up_to : (k a b : ℕ) → 0 < b → k * b < a + b → k ≤ up_div a b
 up_to k a b p h = le-div k (a + (b - 1)) b p (omega arith)
-
-none : (n k : ℕ) → n ≡ 0 → n * k ≡ 0
-none n k z = ap (λ m. m * k) z ∙ zero-mul k
-
-one_more : (n m k : ℕ) → n ≡ suc m → n * k ≡ m * k + k
-one_more n m k e = ap (λ i. i * k) e ∙ suc-mul m k
 
 module _ (p : PlanMeans) where
   done_in : (n asked gone v : ℕ) → asked ≤ gone → left_in n p asked gone v ≡ 0
@@ -43,15 +37,7 @@ module _ (p : PlanMeans) where
   longer (suc n) zero asked gone v h = omega arith
   longer (suc n) (suc m) asked gone v h =
       let u : ℕ = next_advance p asked gone v in
-      ⊎_elim
-      (λ l. omega (
-        arith,
-        more_in n asked gone v u l refl,
-        more_in m asked gone v u l refl,
-        longer n m asked (gone + u) u (omega arith),
-      ))
-      (λ l. omega (arith, done_in (suc n) asked gone v l))
-      (cases_lt gone asked)
+      grind (arith, done_in (suc n) asked gone v, more_in n asked gone v u, more_in m asked gone v u, longer n m asked (gone + u) u)
 
   pub left_done : (asked gone v : ℕ) → asked ≤ gone → ticks_left p asked gone v ≡ 0
   unfolding ticks_left
@@ -90,36 +76,33 @@ module _ (p : PlanMeans) (d : 0 < p.decel) where
       let u : ℕ = next_advance p asked gone v in
       let more : B y ≤ B v = braking_rises p.start p.decel d y v h in
       let room : u + B u ≤ asked - gone = advance_stops p.start p.accel p.decel (speed_at p.rows gone) v (asked - gone) in
-      ⊎_elim
-      (λ (l : 0 < B y).
-      let f : down v ≤ u =
-      advance_falls p.start p.accel p.decel (speed_at p.rows gone) v (asked - gone) d (omega arith) (omega arith) in
-      omega (
+      let falls = advance_falls p.start p.accel p.decel (speed_at p.rows gone) v (asked - gone) d in
+      grind (
         arith,
-        fall_in n x g y e l,
-        more_in p n asked gone v u (omega arith) refl,
-        fewest_in n x (g + down y) (down y) asked (gone + u) u (e ∙ fall g y l) (omega arith) (omega arith),
-      ))
-      (λ (l : B y ≤ 0). omega (arith, done_in p (suc n) x g y (omega arith)))
-      (cases_lt 0 (B y))
+        falls,
+        fall_in n x g y e,
+        fall g y,
+        done_in p (suc n) x g y,
+        more_in p n asked gone v u,
+        fewest_in n x (g + down y) (down y) asked (gone + u) u,
+      )
 
   few_in : (n asked gone v : ℕ) → asked ≡ gone + B v → left_in n p asked gone v * p.decel < (v - p.start) + p.decel
   unfolding left_in
   few_in zero asked gone v e = omega (arith, zero-mul p.decel)
   few_in (suc n) asked gone v e =
-      ⊎_elim
-      (λ (l : 0 < B v).
-      let s : p.start < v = braking_above p.start p.decel d v l in
-      let m = one_more _ _ p.decel (fall_in n asked gone v e l) in
-      let next : asked ≡ gone + down v + B (down v) = e ∙ fall gone v l in
-      ⊎_elim
-      (λ (k : p.start < down v). omega (arith, few_in n asked (gone + down v) (down v) next))
-      (λ (k : down v ≤ p.start).
-      let z : asked ≤ gone + down v = omega (arith, braking_low p.start p.decel (down v) k) in
-      omega (arith, none _ p.decel (done_in p n asked (gone + down v) (down v) z)))
-      (cases_lt p.start (down v)))
-      (λ (l : B v ≤ 0). omega (arith, none _ p.decel (done_in p (suc n) asked gone v (omega arith))))
-      (cases_lt 0 (B v))
+      grind (
+        arith,
+        common_steps,
+        braking_above p.start p.decel d v,
+        braking_low p.start p.decel (down v),
+        done_in p (suc n) asked gone v,
+        done_in p n asked (gone + down v) (down v),
+        fall gone v,
+        fall_in n asked gone v e,
+        few_in n asked (gone + down v) (down v),
+        suc-mul (left_in n p asked (gone + down v) (down v)) p.decel,
+      )
 
   -- it does not raise the ticks left
   pub left_braked : (asked gone v : ℕ) → gone + B v ≤ asked → ticks_left p (gone + B v) gone v ≤ ticks_left p asked gone v
@@ -151,31 +134,33 @@ module _ (p : PlanMeans) (l : Lawful p) (asked : ℕ) (w : asked ≤ 1000 * plan
   enough (suc n) zero gone v h k = done_in p (suc n) asked gone v (omega arith)
   enough (suc n) (suc m) gone v h k =
       let u : ℕ = next_advance p asked gone v in
-      ⊎_elim
-      (λ (i : gone < asked).
-      let some = least gone v i in
-      let s = l.starts in
-      more_in p n asked gone v u i refl
-      ∙ (ap suc (enough n m (gone + u) u (omega arith) (omega arith)) ∙ sym (more_in p m asked gone v u i refl)))
-      (λ i. done_in p (suc n) asked gone v i ∙ sym (done_in p (suc m) asked gone v i))
-      (cases_lt gone asked)
+      grind (
+        arith,
+        l.starts,
+        least gone v,
+        done_in p (suc n) asked gone v,
+        done_in p (suc m) asked gone v,
+        more_in p n asked gone v u,
+        more_in p m asked gone v u,
+        enough n m (gone + u) u,
+      )
 
   short_in : (n gone v : ℕ) → left_in n p asked gone v * p.start < (asked - gone) + p.start
   unfolding left_in
   short_in zero gone v = omega (arith, l.starts, zero-mul p.start)
   short_in (suc n) gone v =
       let u : ℕ = next_advance p asked gone v in
-      let s = l.starts in
-      ⊎_elim
-      (λ (i : gone < asked).
-      let some = least gone v i in
-      let m = one_more _ _ p.start (more_in p n asked gone v u i refl) in
-      ⊎_elim
-      (λ k. omega (arith, short_in n (gone + u) u))
-      (λ k. omega (arith, none _ p.start (done_in p n asked (gone + u) u k)))
-      (cases_lt (gone + u) asked))
-      (λ i. omega (arith, none _ p.start (done_in p (suc n) asked gone v i)))
-      (cases_lt gone asked)
+      grind (
+        arith,
+        common_steps,
+        l.starts,
+        least gone v,
+        done_in p (suc n) asked gone v,
+        done_in p n asked (gone + u) u,
+        more_in p n asked gone v u,
+        short_in n (gone + u) u,
+        suc-mul (left_in n p asked (gone + u) u) p.start,
+      )
 
   -- a tick takes one from the ticks left
   pub left_tick : (gone v u : ℕ) → gone < asked → u ≡ next_advance p asked gone v → ticks_left p asked gone v ≡ ticks_left p asked (gone + u) u + 1

@@ -1,9 +1,9 @@
 pub mod Advances
 pub mod Braking
+pub mod Places
 pub mod Ramping
 pub mod Ramps
 pub mod Speeds
-pub mod CallLaws
 pub mod RampLaws
 pub mod AdvanceLaws
 pub mod BrakingLaws

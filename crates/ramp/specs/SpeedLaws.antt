@@ -1,8 +1,8 @@
 -- The speed at a millistep: what a loop over the rows takes from turn to turn, and its bounds in a plan.
-use Rattle.std.specs.Prelude.{◌≡◌, ℕ, zero, suc, ◌+◌, ◌-◌, ◌*◌, ◌<◌, ◌≤◌, true, List, [], ◌∷◌, length, take, slice_index_or}
-use Rattle.std.proofs.Math.Path.{refl}
-use Rattle.std.proofs.Common.{◌∙◌, ⊎_elim, add-one, arith}
-use Rattle.std.proofs.lemmas.Bool.{cases_lt, lt-ltb, le-ltb}
+use Rattle.std.specs.Prelude.{◌≡◌, ℕ, zero, suc, ◌+◌, ◌-◌, ◌*◌, ◌<◌, ◌≤◌, true, List, [], ◌∷◌, length, take, sum_by, slice_index_or}
+use Rattle.std.proofs.Common.{refl, ◌∙◌, arith}
+use Rattle.std.proofs.lemmas.Bool.{lt-ltb, le-ltb}
+use Rattle.std.proofs.lemmas.List.Recursion.{is_sum_by}
 use Rattle.profile.specs.Rows.{are_rows, steps_of, top_of}
 use Rattle.profile.specs.declared.row.Row.{Row}
 use Rattle.profile.specs.RowLaws.{first_row, other_rows}
@@ -20,21 +20,10 @@ module _ (r : Row) (rows : List Row) (g : ℕ) where
 abbrev at : List Row → ℕ → Row
 at rows i = slice_index_or rows i (record { steps = 0; speed = 0 })
 
-steps_suc : (rows : List Row) (i : ℕ) → i < length rows → steps_of (take (suc i) rows) ≡ steps_of (take i rows) + (at rows i).steps
+-- the steps are a sum
+pub steps_sum : (rows : List Row) → steps_of rows ≡ sum_by (λ (r : Row). r.steps) rows
 unfolding steps_of
-steps_suc [] i h = absurd (omega arith)
-steps_suc (r ∷ []) zero h = omega arith
-steps_suc (r ∷ q ∷ rows) zero h = omega arith
-steps_suc (r ∷ rows) (suc i) h = omega (arith, steps_suc rows i (omega arith))
-
--- one row more
-pub steps_more : (rows : List Row) (i : ℕ) → i < length rows → steps_of (take (i + 1) rows) ≡ steps_of (take i rows) + (at rows i).steps
-steps_more rows i h = rw add-one (steps_suc rows i h)
-
-pub steps_none : (rows : List Row) → steps_of (take 0 rows) ≡ 0
-unfolding steps_of
-steps_none [] = refl
-steps_none (r ∷ rows) = refl
+steps_sum = is_sum_by steps_of (λ (r : Row). r.steps) refl (λ _ _. refl)
 
 -- the row that holds a millistep
 pub speed_here :
@@ -57,20 +46,10 @@ pub speed_least : (S : ℕ) (rows : List Row) (g : ℕ) → are_rows S rows ≡ 
 unfolding steps_of
 speed_least S [] g h l = absurd (omega arith)
 speed_least S (r ∷ rows) g h l =
-    ⊎_elim
-    (λ k. omega (arith, first_speed r rows g k, first_row S r rows h))
-    (λ k. omega (
-      arith,
-      later_speed r rows g k,
-      speed_least S rows (g - 1000 * r.steps) (other_rows S r rows h) (omega arith),
-    ))
-    (cases_lt g (1000 * r.steps))
+    grind (arith, first_speed r rows g, later_speed r rows g, first_row S r rows h, speed_least S rows (g - 1000 * r.steps) (other_rows S r rows h))
 
 pub speed_top : (rows : List Row) (g : ℕ) → speed_at rows g ≤ top_of rows
 unfolding speed_at top_of
 speed_top [] g = omega arith
 speed_top (r ∷ rows) g =
-    ⊎_elim
-    (λ k. omega (arith, first_speed r rows g k))
-    (λ k. omega (arith, later_speed r rows g k, speed_top rows (g - 1000 * r.steps)))
-    (cases_lt g (1000 * r.steps))
+    grind (arith, first_speed r rows g, later_speed r rows g, speed_top rows (g - 1000 * r.steps))

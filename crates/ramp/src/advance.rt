@@ -1,10 +1,10 @@
 // The advance of a tick.
-ghost use Rattle.std.specs.Prelude.{◌+◌, ◌<◌, ◌≤◌};
+ghost use Rattle.std.specs.Prelude.{◌↔◌, ◌+◌, ◌≤◌, IsTrue};
 ghost use Rattle.profile.specs.Plans.{plan_means};
 ghost use Rattle.ramp.specs.Advances.{Greatest, May};
 ghost use Rattle.ramp.specs.Braking.{braking};
 
-use crate::braking::braking_sum;
+use crate::braking::Brake;
 use profile::plan::Plan;
 
 // The greatest advance that may be in a row of this speed, with `rest` millisteps to go and the advance `last` before.
@@ -13,31 +13,40 @@ pub(crate) fn next_advance(plan: &Plan, row_speed: u32, rest: u64, last: u32) ->
     requires last { last ≤ 200000 }
     ensures { Greatest (May (plan_means plan.now).start (plan_means plan.now).accel (plan_means plan.now).decel row_speed last rest) result }
 {
-    let start = plan.start();
-    let decel = plan.decel();
-    let slow = row_speed.max(last.saturating_sub(decel));
-    let eased = start.max(last + plan.accel());
-    greatest_speed(start, decel, slow.min(eased), rest)
+    let slow = row_speed.max(last.saturating_sub(plan.decel()));
+    let eased = plan.start().max(last + plan.accel());
+    Brake::from(plan).greatest(slow.min(eased), rest)
 }
 
-// The greatest speed up to `limit` that goes, with its braking distance, at most `rest` millisteps. A limit is below 2 to the
-// 18, so 18 halvings leave one speed.
-fn greatest_speed(start: u32, decel: u32, limit: u32, rest: u64) -> u32
-    requires { (0 < decel) × (limit ≤ 200000) }
-    ensures { Greatest (λ u. (u ≤ limit) × (u + braking start decel u ≤ rest)) result }
-{
-    if limit as u64 + braking_sum(start, decel, limit) <= rest {
-        return limit;
+impl Brake {
+    // Whether a speed and the braking from it go at most `rest` millisteps.
+    fn stops(self, speed: u32, rest: u64) -> bool
+        requires { speed ≤ 200000 }
+        ensures { IsTrue result ↔ (speed + braking self.start self.decel speed ≤ rest) }
+    {
+        speed as u64 + self.distance(speed) <= rest
     }
-    let mut low = 0;
-    let mut high = limit;
-    for _turn in 0..18u32 {
-        let middle = low + (high - low + 1) / 2;
-        if middle as u64 + braking_sum(start, decel, middle) <= rest {
-            low = middle;
-        } else {
-            high = middle - 1;
+
+    // The greatest speed up to `limit` that stops in `rest` millisteps: mostly the limit itself. The search for a lower one halves what is
+    // left with each turn, so a limit below 2 to the 18 has 18 turns at most. It is a loop, since the library's `partition_point` searches
+    // a slice.
+    fn greatest(self, limit: u32, rest: u64) -> u32
+        requires { limit ≤ 200000 }
+        ensures { Greatest (λ u. (u ≤ limit) × (u + braking self.start self.decel u ≤ rest)) result }
+    {
+        if self.stops(limit, rest) {
+            return limit;
         }
+        let mut low = 0;
+        let mut high = limit;
+        while low < high {
+            let middle = low + (high - low).div_ceil(2);
+            if self.stops(middle, rest) {
+                low = middle;
+            } else {
+                high = middle - 1;
+            }
+        }
+        low
     }
-    low
 }

@@ -3,7 +3,7 @@
 
 mod advance;
 pub mod braking;
+mod place;
 pub mod ramp;
-mod speed;
 #[cfg(test)]
 mod tests;

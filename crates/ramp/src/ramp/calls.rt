@@ -1,16 +1,17 @@
 // What the constant-acceleration profile does.
 ghost use Rattle.std.specs.Prelude.{◌≡◌, ◌+◌, ◌*◌, Some, None};
-ghost use Rattle.profile.specs.Plans.{plan_means, plan_of, plan_steps};
+ghost use Rattle.profile.specs.Plans.{plan_means, plan_steps};
 ghost use Rattle.profile.specs.Profiles.{Begun, Ticked, Braked};
 ghost use Rattle.ramp.specs.Ramping.{braking_of, ramping};
 ghost use Rattle.ramp.specs.Ramps.{ramp_means, last_of, Advanced};
-ghost use Rattle.ramp.specs.CallLaws.{ramp_sound};
+ghost use Rattle.ramp.specs.RampLaws;
 
 use super::Ramp;
 use crate::advance::next_advance;
 use crate::braking::braking_distance;
-use crate::speed::find_row;
+use crate::place::Place;
 use profile::plan::Plan;
+use profile::progress::Progress;
 use profile::traits::Profile;
 
 impl Ramp {
@@ -20,12 +21,9 @@ impl Ramp {
         ensures last { last_of result ≡ 0 }
     {
         Ramp {
-            plan: None,
-            asked: 0,
-            gone: 0,
+            progress: Progress::new(),
             last: 0,
-            row: 0,
-            before: 0,
+            place: Place::default(),
         }
     }
 
@@ -40,62 +38,58 @@ impl Ramp {
 impl Profile for Ramp {
     ghost means = { ramp_means };
 
-    ghost sound = { λ p. ramp_sound p };
+    ghost sound = { λ p. RampLaws.sound p.progress.plan p.progress.asked p.progress.gone p.last p.progress.reached p.progress.within };
 
     fn begin(&mut self, plan: Plan)
         ensures begun { Begun (ramp_means self.old) (plan_means plan) (ramp_means self.new) }
         ensures exactly { ramp_means self.new ≡ ramping (Some (plan_means plan)) (1000 * plan_steps (plan_means plan)) 0 0 }
         ensures last { last_of self.new ≡ 0 }
     {
-        self.asked = 1000 * plan.steps() as u64;
-        self.gone = 0;
+        self.progress.begin(plan);
         self.last = 0;
-        self.row = 0;
-        self.before = 0;
-        self.plan = Some(plan);
+        self.place = Place::default();
     }
 
     fn tick(&mut self) -> u32
         ensures ticked { Ticked (ramp_means self.old) result (ramp_means self.new) }
         ensures advanced { Advanced self.old result self.new }
     {
-        let Some(plan) = &self.plan else {
+        let Some(plan) = self.progress.plan() else {
             return 0;
         };
-        if self.gone == self.asked {
+        let rest = self.progress.left();
+        if rest == 0 {
             return 0;
         }
-        let found = find_row(plan.rows(), self.row, self.before, self.gone);
-        let advance = next_advance(plan, found.speed, self.asked - self.gone, self.last);
-        self.gone += advance as u64;
+        // A copy: with `self.place` changed where it stands, it is not proved that a tick with nothing left leaves the same value.
+        let mut place = self.place;
+        let row_speed = place.speed_after(plan.rows(), self.progress.gone());
+        let advance = next_advance(plan, row_speed, rest, self.last);
+        self.place = place;
         self.last = advance;
-        self.row = found.row;
-        self.before = found.before;
-        advance
+        self.progress.go(advance)
     }
 
     fn brake(&mut self)
         ensures braked { Braked (ramp_means self.old) (ramp_means self.new) }
-        ensures exactly { ramp_means self.new ≡ ramping (plan_of self.old.plan) (self.old.gone + braking_of (plan_of self.old.plan) self.old.last) self.old.gone self.old.last }
+        ensures exactly { let m = ramp_means self.old in ramp_means self.new ≡ ramping m.plan (m.gone + braking_of m.plan (last_of self.old)) m.gone (last_of self.old) }
         ensures last { last_of self.new ≡ last_of self.old }
     {
-        if let Some(plan) = &self.plan {
-            self.asked = self.gone + braking_distance(plan, self.last);
+        if let Some(plan) = self.progress.plan() {
+            let asked = self.progress.gone() + braking_distance(plan, self.last);
+            self.progress.ask(asked);
         }
     }
 
     fn gone(&self) -> u64 {
-        self.gone
+        self.progress.gone()
     }
 
     fn asked(&self) -> u64 {
-        self.asked
+        self.progress.asked()
     }
 
     fn top(&self) -> u32 {
-        match &self.plan {
-            Some(plan) => plan.top(),
-            None => 0,
-        }
+        self.progress.top()
     }
 }

@@ -1,27 +1,15 @@
-use Rattle.std.proofs.Common.{◌*◌, Some, refl, ap, arith}
+use Rattle.std.proofs.Common.{refl, arith}
+use Rattle.std.proofs.lemmas.Grind.{common_steps}
 use Rattle.profile.specs.Plans.{plan_means}
-use Rattle.ramp.specs.Ramping.{ramping}
+use Rattle.profile.specs.PlanLaws.{lawful}
 use Rattle.ramp.specs.BrakingLaws.{braking_low}
-use Rattle.ramp.specs.CallLaws.{begun}
-use Rattle.ramp.specs.SpeedLaws.{steps_none}
+use Rattle.ramp.specs.RampLaws.{begins}
+use Rattle.ramp.specs.Ramps.{ramp_means}
+use Rattle.ramp.specs.SpeedLaws.{steps_sum}
 use Rattle.ramp.proofs.ramp.calls.RampProfile.begin.Goals as goal
 
 pub invariant_of-self : goal.invariant_of-self
-invariant_of-self c =
-    let b = braking_low c.args.plan.start c.args.plan.decel 0 (omega arith) in
-    record {
-      within = omega (arith, c.steps.ensures);
-      slow = omega arith;
-      stops = omega arith;
-      there = omega (arith, steps_none (plan_means c.args.plan).rows);
-      behind = omega arith;
-    }
+invariant_of-self c = grind (arith, common_steps, braking_low, steps_sum)
 
-pub returns : goal.returns
-returns c =
-    let p = c.args.plan in
-    record {
-      begun = begun c.args.self.now p c.steps.result c.steps.ensures;
-      exactly = ap (λ n. ramping (Some (plan_means p)) (1000 * n) 0 0) c.steps.ensures;
-      last = refl;
-    }
+pub returns-clause-begun : goal.returns-clause-begun
+returns-clause-begun c = grind (arith, begins (plan_means c.args.plan) (lawful c.args.plan) (ramp_means c.args.self.now) refl)

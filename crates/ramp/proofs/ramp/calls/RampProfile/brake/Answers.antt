@@ -1,17 +1,9 @@
-use Rattle.std.proofs.Common.{◌+◌, refl, ap}
-use Rattle.profile.specs.Plans.{plan_of}
-use Rattle.ramp.specs.Ramping.{ramping}
-use Rattle.ramp.specs.CallLaws.{braked, braked_distance}
+use Rattle.std.proofs.Common.{arith}
+use Rattle.ramp.specs.RampLaws.{brakes}
 use Rattle.ramp.proofs.ramp.calls.RampProfile.brake.Goals as goal
 
-pub returns-in-Some : goal.returns-in-Some
-returns-in-Some c =
+pub returns-in-Some-clause-braked : goal.returns-in-Some-clause-braked
+returns-in-Some-clause-braked c =
     let a = c.args.self.now in
-    let p = c.in-Some.plan in
-    record {
-      braked = braked a p c.in-Some.is c.braking_distance.result c.braking_distance.ensures.distance;
-      exactly = ap
-          (λ b. ramping (plan_of a.plan) (a.gone + b) a.gone a.last)
-          (braked_distance a p c.in-Some.is c.braking_distance.result c.braking_distance.ensures.distance);
-      last = refl;
-    }
+    let m = a.progress in
+    grind (arith, brakes m.plan m.asked m.gone a.last m.within a.slow a.stops)
