@@ -1,4 +1,6 @@
+pub mod Lengths
 pub mod Smoothing
+pub mod Standings
 pub mod WindowOf
 pub mod Windows
 pub mod SmoothLaws

@@ -1,65 +1,59 @@
 -- What a new value makes of the values kept.
-use Rattle.std.specs.Prelude.{◌≡◌, ℕ, zero, suc, ◌+◌, ◌-◌, ◌*◌, ◌<◌, ◌≤◌, List, [], ◌∷◌, length, replicate, ◌==◌, ◌≢◌, refl}
+use Rattle.std.specs.Prelude.{◌≡◌, ℕ, zero, suc, ◌+◌, ◌-◌, ◌*◌, ◌<◌, ◌≤◌, List, [], ◌∷◌, length, sum, replicate, ◌==◌, ◌≢◌, refl}
 use Rattle.std.proofs.Common.{ap, ⊎_elim, suc-mul, arith}
 use Rattle.std.proofs.lemmas.Nat.{mul-le}
+use Rattle.std.proofs.lemmas.List.Sums.{sum_by-cons}
 use Rattle.std.proofs.lemmas.Bool.{cases_eq, eq-eqb, ne_eqb, cond_both}
-use Rattle.smoothing.specs.Windows.{total, pushed, from_other}
-
--- the oldest, or v where there is none
-abbrev pub oldest : ℕ → List ℕ → ℕ
-oldest v [] = v
-oldest v (x ∷ xs) = oldest x xs
-
--- going back from v, no value is above the one after it, or below it by more than t
-abbrev pub Steady : ℕ → ℕ → List ℕ → Type 0
-Steady t v [] = Unit {0}
-Steady t v (x ∷ xs) = (x ≤ v) × (v ≤ x + t) × Steady t x xs
+use Rattle.smoothing.specs.Windows.{pushed, oldest, from_other, Steady}
 
 pub length_pushed : (v : ℕ) (xs : List ℕ) → length (pushed v xs) ≡ length xs
 length_pushed v [] = refl
 length_pushed v (x ∷ xs) = ap suc (length_pushed x xs)
 
-pub total_pushed : (v : ℕ) (xs : List ℕ) → total (pushed v xs) + oldest v xs ≡ v + total xs
+pub sum_cons : (x : ℕ) (xs : List ℕ) → sum (x ∷ xs) ≡ x + sum xs
+sum_cons = sum_by-cons (λ x. x)
+
+pub total_pushed : (v : ℕ) (xs : List ℕ) → sum (pushed v xs) + oldest v xs ≡ v + sum xs
 total_pushed v [] = omega arith
-total_pushed v (x ∷ xs) = omega (arith, total_pushed x xs)
+total_pushed v (x ∷ xs) = omega (arith, sum_cons v (pushed x xs), sum_cons x xs, total_pushed x xs)
 
 pub steady_pushed : (t v x : ℕ) (xs : List ℕ) → x ≤ v → v ≤ x + t → Steady t x xs → Steady t v (pushed x xs)
 steady_pushed t v x [] p q s = tt
-steady_pushed t v x (y ∷ ys) p q s = (p, q, steady_pushed t x y ys s.0 s.1 s.2)
+steady_pushed t v x (y ∷ ys) p q s = ((p, q), steady_pushed t x y ys s.0.0 s.0.1 s.1)
 
 -- the oldest is at most as far back as so many rises
 pub oldest_le : (t v : ℕ) (xs : List ℕ) → Steady t v xs → oldest v xs ≤ v
 oldest_le t v [] s = omega arith
-oldest_le t v (x ∷ xs) s = omega (arith, oldest_le t x xs s.2)
+oldest_le t v (x ∷ xs) s = omega (arith, oldest_le t x xs s.1)
 
 pub oldest_near : (t v : ℕ) (xs : List ℕ) → Steady t v xs → v ≤ oldest v xs + length xs * t
 oldest_near t v [] s = omega arith
-oldest_near t v (x ∷ xs) s = rw suc-mul (omega (arith, oldest_near t x xs s.2))
+oldest_near t v (x ∷ xs) s = rw suc-mul (omega (arith, oldest_near t x xs s.1))
 
-pub total_le : (t v : ℕ) (xs : List ℕ) → Steady t v xs → total xs ≤ length xs * v
+pub total_le : (t v : ℕ) (xs : List ℕ) → Steady t v xs → sum xs ≤ length xs * v
 total_le t v [] s = omega arith
 total_le t v (x ∷ xs) s =
-    rw suc-mul (omega (arith, total_le t x xs s.2, mul-le (length xs) x (length xs) v (omega arith) s.0))
+    rw suc-mul (omega (arith, sum_cons x xs, total_le t x xs s.1, mul-le (length xs) x (length xs) v (omega arith) s.0.0))
 
 -- all equal, and not
-pub total_alike : (v : ℕ) (xs : List ℕ) → from_other v xs ≡ 0 → total xs ≡ length xs * v
+pub total_alike : (v : ℕ) (xs : List ℕ) → from_other v xs ≡ 0 → sum xs ≡ length xs * v
 total_alike v [] e = omega arith
 total_alike v (x ∷ xs) e =
     ⊎_elim
-    (λ (h : v ≡ x). let u : from_other v xs ≡ 0 = rw (eq-eqb v x h) at e in rw suc-mul (omega (arith, total_alike v xs u)))
+    (λ (h : v ≡ x). let u : from_other v xs ≡ 0 = rw (eq-eqb v x h) at e in rw suc-mul (omega (arith, sum_cons x xs, total_alike v xs u)))
     (λ (h : v ≡ x → ⊥). let u : 1 + length xs ≡ 0 = rw (ne_eqb v x h) at e in omega arith)
     (cases_eq v x)
 
-pub total_unlike : (t v : ℕ) (xs : List ℕ) → Steady t v xs → 0 < from_other v xs → total xs < length xs * v
+pub total_unlike : (t v : ℕ) (xs : List ℕ) → Steady t v xs → 0 < from_other v xs → sum xs < length xs * v
 total_unlike t v [] s p = omega arith
 total_unlike t v (x ∷ xs) s p =
     ⊎_elim
     (λ (h : v ≡ x).
     let u : 0 < from_other v xs = rw (eq-eqb v x h) at p in
-    let k : Steady t v xs = rw h s.2 in
-    rw suc-mul (omega (arith, total_unlike t v xs k u)))
+    let k : Steady t v xs = rw h s.1 in
+    rw suc-mul (omega (arith, sum_cons x xs, total_unlike t v xs k u)))
     (λ (h : v ≡ x → ⊥).
-    rw suc-mul (omega (arith, h, s.0, total_le t x xs s.2, mul-le (length xs) x (length xs) v (omega arith) s.0)))
+    rw suc-mul (omega (arith, sum_cons x xs, h, s.0, total_le t x xs s.1, mul-le (length xs) x (length xs) v (omega arith) s.0.0)))
     (cases_eq v x)
 
 pub other_le : (v : ℕ) (xs : List ℕ) → from_other v xs ≤ length xs
@@ -85,4 +79,4 @@ same_pushed v (y ∷ ys) =
 -- so many equal values
 pub steady_replicate : (t v n : ℕ) → Steady t v (replicate n v)
 steady_replicate t v zero = tt
-steady_replicate t v (suc n) = (omega arith, omega arith, steady_replicate t v n)
+steady_replicate t v (suc n) = ((omega arith, omega arith), steady_replicate t v n)

@@ -5,10 +5,11 @@ use Rattle.std.proofs.lemmas.List.{length-replicate}
 use Rattle.std.proofs.lemmas.Bool.{cases_eq, cases_lt, eq-eqb, ne_eqb, cond_both}
 use Rattle.profile.specs.Plans.{PlanMeans}
 use Rattle.profile.specs.Profiles.{ProfileMeans, Sound, Begun, Ticked, Braked, fastest}
-use Rattle.smoothing.specs.Windows.{mean_of, pushed, from_other, ticks_to_equal}
+use Rattle.smoothing.specs.Windows.{mean_of, pushed, from_other, ticks_to_equal, Kept}
+use Rattle.smoothing.specs.Standings.{standing_of}
 use Rattle.smoothing.specs.Smoothing.{left_over, smoothing}
 use Rattle.smoothing.specs.Pushes.{length_pushed, other_le, other_pushed, same_pushed}
-use Rattle.smoothing.specs.Keeps.{Kept, kept_pushed, mean_le, mean_alike, mean_unlike, mean_near, mean_replicate}
+use Rattle.smoothing.specs.Keeps.{kept_some, kept_pushed, mean_le, mean_alike, mean_unlike, mean_near, mean_replicate}
 
 -- with nothing left below, and with something
 left_at_none : (l : ℕ) (ws : List ℕ) → l ≡ 0 → left_over l ws ≡ ticks_to_equal ws
@@ -74,11 +75,11 @@ module _ (m : ProfileMeans) (s : Sound m) where
 
 -- a new plan below, with zeros kept
 pub begun_smooth :
-    (m m' : ProfileMeans) (p : PlanMeans) (ws ws' : List ℕ) → 0 < length ws → Begun m p m' → ws' ≡ replicate (length ws) 0
-    → Begun (smoothing m ws) p (smoothing m' ws')
-begun_smooth m m' p ws ws' some b e =
+    (m m' : ProfileMeans) (p : PlanMeans) (ws ws' : List ℕ) → Kept (fastest m.plan) m.gone ws → Begun m p m'
+    → ws' ≡ replicate (length ws) 0 → Begun (smoothing m ws) p (smoothing m' ws')
+begun_smooth m m' p ws ws' k b e =
     let n : length ws' ≡ length ws = ap length e ∙ length-replicate (length ws) 0 in
-    let y : mean_of ws' ≡ 0 = ap mean_of e ∙ mean_replicate (length ws) 0 some in
+    let y : mean_of ws' ≡ 0 = ap mean_of e ∙ mean_replicate (length ws) 0 (kept_some (fastest m.plan) m.gone ws k) in
     record {
       after =
           ap (λ x. record { plan = x.plan; asked = x.asked; gone = mean_of ws'; left = left_over m'.left ws'; lag = x.lag + (length ws' - 1) }) b.after
@@ -135,12 +136,16 @@ module _
 
 -- a tick below, whose new value is kept
 pub ticked_smooth :
-    (m m' : ProfileMeans) (a : ℕ) (ws : List ℕ) (r : ℕ) → Sound m → Sound m' → Ticked m a m' → Kept (fastest m.plan) m.gone ws
-    → mean_of ws + r ≡ mean_of (pushed m'.gone ws) → Ticked (smoothing m ws) r (smoothing m' (pushed m'.gone ws))
-ticked_smooth m m' a ws r s s' b k =
+    (m m' : ProfileMeans) (a : ℕ) (ws ws' : List ℕ) (r : ℕ) → Sound m → Sound m' → Ticked m a m' → Kept (fastest m.plan) m.gone ws
+    → ws' ≡ pushed m'.gone ws → mean_of ws + r ≡ mean_of ws' → Ticked (smoothing m ws) r (smoothing m' ws')
+ticked_smooth m m' a ws ws' r s s' b k kept rise =
     let P : ProfileMeans → Type 0
-    = λ x. Sound x → mean_of ws + r ≡ mean_of (pushed x.gone ws) → Ticked (smoothing m ws) r (smoothing x (pushed x.gone ws)) in
-    subst P (sym b.after) (λ t e. ticked m a s t b.idle b.within ws r k e) s'
+    = λ x. Sound x → ws' ≡ pushed x.gone ws → Ticked (smoothing m ws) r (smoothing x ws') in
+    subst P (sym b.after) (λ t e. rw e (ticked m a s t b.idle b.within ws r k (rise ∙ ap mean_of e))) s' kept
+
+-- a brake below leaves it where it stands
+pub standing_braked : (m m' : ProfileMeans) → Braked m m' → standing_of m' ≡ standing_of m
+standing_braked m m' b = ap standing_of b.after
 
 -- a brake below, which leaves the values kept as they are
 pub braked_smooth :

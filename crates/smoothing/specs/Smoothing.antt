@@ -1,14 +1,11 @@
 -- Smoothing over a profile: gone is the mean of the last W values of gone below. The plan and asked are those below, and the lag
 -- is W − 1 more. Left is left below + W − 1, or, once nothing is left below, the ticks until all kept values are equal.
-use Rattle.std.specs.Prelude.{ℕ, ◌+◌, ◌-◌, min, max, Bool, cond, List, length, ◌==◌}
-use Rattle.profile.specs.Profiles.{ProfileMeans, fastest}
+use Rattle.std.specs.Prelude.{ℕ, ◌+◌, ◌-◌, Bool, cond, List, length, ◌==◌}
+use Rattle.profile.specs.Profiles.{ProfileMeans}
+use Rattle.smoothing.specs.Standings.{standing_of}
 use Rattle.smoothing.specs.Windows.{mean_of, ticks_to_equal}
 use Rattle.smoothing.specs.WindowOf.{in_step, kept_at}
 use Rattle.smoothing.specs.declared.smoothed.Smoothed.{Smoothed}
-
--- W, where n is asked for: 1 to 64; 0 counts as 1, and more as 64
-abbrev pub length_for : ℕ → ℕ
-length_for n = min (max n 1) 64
 
 -- the ticks left, with so many left below; the laws of a profile leave it no other value, since left falls by 1 a tick and is 0
 -- exactly when gone is asked
@@ -28,11 +25,11 @@ smoothing m ws =
 
 -- whether the window is in step with the profile below, which f gives a meaning
 abbrev pub step_over : {P : Type 0} → (P → ProfileMeans) → Smoothed P → Bool
-step_over f s = in_step s.window (f s.below).gone (fastest (f s.below).plan)
+step_over f s = in_step s.window (standing_of (f s.below))
 
 -- the values kept
 abbrev pub kept_over : {P : Type 0} → (P → ProfileMeans) → Smoothed P → List ℕ
-kept_over f s = kept_at s.window (f s.below).gone (fastest (f s.below).plan)
+kept_over f s = kept_at s.window (standing_of (f s.below))
 
 -- W
 abbrev pub length_over : {P : Type 0} → (P → ProfileMeans) → Smoothed P → ℕ

@@ -1,12 +1,15 @@
 // Smoothing over a profile: what it has gone is the mean of what the profile below had gone after each of its last ticks.
 ghost use Rattle.std.specs.Prelude.{◌≡◌, ℕ, ◌+◌, ◌-◌, ◌≤◌, true, replicate};
 ghost use Rattle.profile.specs.Plans.{plan_means};
-ghost use Rattle.profile.specs.Profiles.{Begun, Ticked, Braked, fastest};
-ghost use Rattle.smoothing.specs.Smoothing.{length_for, step_over, kept_over, length_over, smooth_means};
+ghost use Rattle.profile.specs.Profiles.{Begun, Ticked, Braked};
+ghost use Rattle.smoothing.specs.Lengths.{length_for};
+ghost use Rattle.smoothing.specs.Smoothing.{step_over, kept_over, length_over, smooth_means};
+ghost use Rattle.smoothing.specs.Standings.{standing_of};
 ghost use Rattle.smoothing.specs.Windows.{pushed};
 ghost use Rattle.smoothing.specs.SmoothLaws.{sound_smooth};
 ghost use Rattle.smoothing.specs.WindowLaws.{kept_at_keeps};
 
+use crate::standing::Standing;
 use crate::window::Window;
 use profile::plan::Plan;
 use profile::traits::Profile;
@@ -29,7 +32,7 @@ impl<P: Profile> Smoothed<P> {
         ensures lag { (smooth_means P.Profile.means result).lag ≡ (P.Profile.means below).lag + (length_for length - 1) }
         ensures step { step_over P.Profile.means result ≡ true }
     {
-        let window = Window::new(length.max(1).min(64), below.gone(), below.top());
+        let window = Window::new(length, Standing::of(&below));
         Smoothed { below, window }
     }
 
@@ -44,7 +47,7 @@ impl<P: Profile> Smoothed<P> {
         ensures length { result ≡ length_over P.Profile.means self.now }
         ensures within { (1 ≤ result) × (result ≤ 64) }
     {
-        self.window.size()
+        self.window.kept.len()
     }
 }
 
@@ -53,7 +56,7 @@ impl<P: Profile> Profile for Smoothed<P> {
 
     ghost sound = { λ s.
         let m = P.Profile.means s.below in
-        sound_smooth m (P.Profile.sound s.below) (kept_over P.Profile.means s) (kept_at_keeps s.window m.gone (fastest m.plan)) };
+        sound_smooth m (P.Profile.sound s.below) (kept_over P.Profile.means s) (kept_at_keeps s.window (standing_of m)) };
 
     fn begin(&mut self, plan: Plan)
         ensures begun { Begun (smooth_means P.Profile.means self.old) (plan_means plan) (smooth_means P.Profile.means self.new) }
@@ -62,7 +65,7 @@ impl<P: Profile> Profile for Smoothed<P> {
         ensures step { step_over P.Profile.means self.new ≡ true }
     {
         self.below.begin(plan);
-        self.window.refill(0, plan.top());
+        self.window.refill(Standing::of(&self.below));
     }
 
     // Its time over that of a tick below does not grow with the length: one value goes in and one out, and the push makes the only
@@ -73,10 +76,9 @@ impl<P: Profile> Profile for Smoothed<P> {
         ensures kept { kept_over P.Profile.means self.new ≡ pushed (P.Profile.means self.new.below).gone (kept_over P.Profile.means self.old) }
         ensures step { step_over P.Profile.means self.new ≡ true }
     {
-        let gone = self.below.gone();
-        self.window.bring_in_step(gone, self.below.top());
-        let advance = self.below.tick();
-        self.window.push(gone + advance as u64)
+        self.window.bring_in_step(Standing::of(&self.below));
+        self.below.tick();
+        self.window.push(Standing::of(&self.below))
     }
 
     fn brake(&mut self)
@@ -89,7 +91,7 @@ impl<P: Profile> Profile for Smoothed<P> {
     }
 
     fn gone(&self) -> u64 {
-        self.window.mean_over(self.below.gone(), self.below.top())
+        self.window.mean_over(Standing::of(&self.below))
     }
 
     fn asked(&self) -> u64 {

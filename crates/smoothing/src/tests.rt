@@ -2,13 +2,18 @@
 use crate::smoothed::Smoothed;
 use profile::creep::Creep;
 use profile::plan::Plan;
+use profile::rates::Rates;
 use profile::row::Row;
 use profile::traits::Profile;
 use std::process::Abort;
 use std::test::Fail;
 
 fn plan(start: u32, steps: u32) -> Result<Plan, Fail> {
-    Ok(Plan::new(start, 50, 50, &[Row { steps, speed: 900 }])?)
+    let rates = Rates {
+        accel: 50,
+        decel: 50,
+    };
+    Ok(Plan::new(start, rates, &[Row { steps, speed: 900 }])?)
 }
 
 fn advances<P: Profile>(rt: &impl Abort, profile: &mut P, expected: &[u32]) {

@@ -1,25 +1,22 @@
-// The last values of a number that rises.
-ghost use Rattle.std.specs.Prelude.{◌≡◌, ◌/◌, ◌<◌, ◌≤◌, true, length, take};
-ghost use Rattle.smoothing.specs.Windows.{total, newest_first, is_kept};
+// What a profile had gone at its last ticks.
+ghost use Rattle.std.specs.Prelude.{◌≡◌, sum};
+ghost use Rattle.smoothing.specs.Windows.{mean_of, Kept};
+ghost use Rattle.smoothing.specs.Keeps.{kept_prop};
+
+use crate::ring::Ring;
+use crate::standing::Standing;
 
 mod calls;
 
 #[derive(Drop)]
 pub(crate) struct Window {
-    // The first `size` places are a ring; the oldest value stands at `next`, where the next one goes.
-    ring: [u64; 64],
-    size: usize,
-    next: usize,
+    pub(crate) kept: Ring,
     // The sum of the values and their mean, kept so that a new value costs one division and nothing goes over the ring.
-    sum: u64,
+    total: u64,
     mean: u64,
-    newest: u64,
-    // The most that a value may rise by over the one before.
-    pace: u32,
-    ghost full: { length ring ≡ 64 },
-    ghost sized: { (next < size) × (size ≤ 64) },
-    ghost summed: { sum ≡ total (take size ring) },
-    ghost averaged: { mean ≡ sum / size },
-    ghost near: { newest ≤ 16777214000 },
-    ghost steady: { is_kept pace newest (newest_first next (take size ring)) ≡ true },
+    // Where the profile stood when the newest value was kept. A value rises by at most the top over the one before.
+    standing: Standing,
+    ghost summed: { total ≡ sum kept },
+    ghost averaged: { mean ≡ mean_of kept },
+    ghost steady: { Kept standing.top standing.gone kept } by { kept_prop standing.top standing.gone kept },
 }
