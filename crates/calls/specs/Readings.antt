@@ -1,7 +1,7 @@
 -- What the reading of a line answers. Want of memory says nothing of the line.
 use Rattle.std.specs.Prelude.{◌≡◌, Ok, Err, vec_items, Result}
 use Rattle.calls.specs.Lines.{LineMeans, Blank, Bed, At, Tripped, Setup, Block, Event, Tick}
-use Rattle.calls.specs.declared.fault.LineFault.{LineFault}
+use Rattle.bed.specs.declared.fault.LineFault.{LineFault}
 use Rattle.calls.specs.declared.fault.ReadFault.{ReadFault}
 use Rattle.calls.specs.declared.fault.ReadFault.TheVariants as fault
 use Rattle.calls.specs.declared.line.Line.{Line}
@@ -9,7 +9,7 @@ use Rattle.calls.specs.declared.line.Line.TheVariants as line
 
 abbrev pub line_means : Line → LineMeans
 line_means line.Blank = Blank
-line_means (line.Bed drive profile) = Bed drive profile
+line_means (line.Bed bed) = Bed bed
 line_means (line.At place) = At place
 line_means line.Tripped = Tripped
 line_means (line.Setup speed) = Setup speed

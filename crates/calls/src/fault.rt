@@ -2,23 +2,16 @@
 ghost use Rattle.std.specs.Prelude.{◌≡◌};
 ghost use Rattle.calls.specs.declared.fault.ReadFault.TheVariants as fault;
 
+use bed::fault::LineFault;
 use std::alloc::AllocFailed;
-
-// The first fault of a line, from left to right.
-#[derive(Clone, Copy, PartialEq, Eq, Debug)]
-pub enum LineFault {
-    UnknownCommand,
-    UnknownDrive,
-    UnknownProfile,
-    MissingWord,
-    ExtraWord,
-    NotANumber,
-}
+use thiserror::Error;
 
 // The line's own fault, or no memory for what it says.
-#[derive(Clone, Copy, PartialEq, Eq, Debug)]
+#[derive(Clone, Copy, PartialEq, Eq, Debug, Error)]
 pub enum ReadFault {
+    #[error("{0}")]
     Line(LineFault),
+    #[error("no memory for it")]
     NoMemory,
 }
 

@@ -1,6 +1,8 @@
-use crate::fault::{LineFault, ReadFault};
-use crate::line::{BaseProfile, DriveKind, Line, ProfileKind};
+use crate::fault::ReadFault;
+use crate::line::Line;
 use crate::read::read_line;
+use bed::fault::LineFault;
+use bed::kind::{BaseProfile, BedKind, DriveKind, ProfileKind};
 use std::alloc::Global;
 use std::test::Fail;
 
@@ -11,7 +13,7 @@ fn fault(heap: Global, text: &[u8]) -> Option<ReadFault> {
 
 fn is_bed(heap: Global, text: &[u8], drive: DriveKind, profile: ProfileKind) -> bool {
     match read_line(heap, text) {
-        Ok(Line::Bed(said, by)) => said == drive && by == profile,
+        Ok(Line::Bed(bed)) => bed == BedKind { drive, profile },
         _ => false,
     }
 }

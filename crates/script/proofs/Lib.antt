@@ -1,5 +1,1 @@
-pub mod DecimalLaws
-pub mod LineLaws
 pub mod RowLaws
-pub mod TextLaws
-pub mod TextLineLaws

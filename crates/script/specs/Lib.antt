@@ -1,4 +1,2 @@
-pub mod Decimals
+pub mod Commands
 pub mod Lines
-pub mod TextLines
-pub mod Texts

@@ -1,64 +1,28 @@
-// What a line of a cut script says, and why one is refused.
-ghost use Rattle.std.specs.Prelude.{◌≡◌, take};
+// What a line of a cut script says.
+ghost use Rattle.std.specs.Prelude.{◌≡◌};
 
+use bed::kind::BedKind;
+use cut::order::Cut;
 use drive::direction::Direction;
+use profile::list::RowList;
+use profile::rates::Rates;
 use profile::row::Row;
 
-// The kinds of drive that a bed may have.
-#[derive(Clone, Copy, PartialEq, Eq, Debug)]
-pub enum DriveKind {
-    Pulse,
-    Phase,
-}
-
-// The profiles that stand on no other.
-#[derive(Clone, Copy, PartialEq, Eq, Debug)]
-pub enum BaseProfile {
-    Creep,
-    Ramp,
-}
-
-// The profiles that a bed may move by: one that stands on no other, or that one smoothed once or twice.
-// The lengths of the smoothing are as the line says them, the outermost first, and may be any numbers.
-#[derive(Clone, Copy, PartialEq, Eq, Debug)]
-pub enum ProfileKind {
-    Plain(BaseProfile),
-    Smooth(u32, BaseProfile),
-    SmoothTwice(u32, u32, BaseProfile),
-}
-
-// A cut, in the order of its words.
-#[derive(Clone, Copy, PartialEq, Eq, Debug)]
-pub struct CutLine {
-    pub target: i32,
-    pub start: u32,
-    pub speed: u32,
-    pub accel: u32,
-    pub decel: u32,
-}
-
 // A move of up to sixteen rows in one direction, in the order of its words.
-// The first `count` of `rows` are the line's, and the others have no steps and no speed.
 #[derive(Clone, Copy, PartialEq, Eq, Debug)]
 pub struct BlendLine {
     pub direction: Direction,
     pub start: u32,
-    pub accel: u32,
-    pub decel: u32,
-    pub rows: [Row; 16],
-    pub count: usize,
+    pub rates: Rates,
+    pub rows: RowList,
 }
 
 impl BlendLine {
-    // Its rows, without those that only fill up the sixteen.
+    // Its rows.
     pub fn listed(&self) -> &[Row]
-        ensures { result.now ≡ take self.now.count self.now.rows }
+        ensures { result.now ≡ self.now.rows }
     {
-        if self.count < 16 {
-            &self.rows[0..self.count]
-        } else {
-            &self.rows
-        }
+        self.rows.as_slice()
     }
 }
 
@@ -66,21 +30,9 @@ impl BlendLine {
 #[derive(Clone, Copy, PartialEq, Eq, Debug)]
 pub enum Line {
     Blank,
-    Bed(DriveKind, ProfileKind),
+    Bed(BedKind),
     At(i32),
     Tripped,
-    Cut(CutLine),
+    Cut(Cut),
     Blend(BlendLine),
-}
-
-// The first fault of a line, from left to right.
-#[derive(Clone, Copy, PartialEq, Eq, Debug)]
-pub enum LineFault {
-    UnknownCommand,
-    UnknownDrive,
-    UnknownProfile,
-    UnknownDirection,
-    MissingWord,
-    ExtraWord,
-    NotANumber,
 }

@@ -1,8 +1,16 @@
-use crate::line::{BaseProfile, BlendLine, CutLine, DriveKind, Line, LineFault, ProfileKind};
-use crate::number::{natural, number};
+use crate::line::{BlendLine, Line};
 use crate::read::read_line;
+use bed::fault::LineFault;
+use bed::kind::{BaseProfile, BedKind, DriveKind, ProfileKind};
+use cut::order::Cut;
 use drive::direction::Direction;
+use profile::list::RowList;
+use profile::rates::Rates;
 use profile::row::Row;
+
+fn bed(drive: DriveKind, profile: ProfileKind) -> Line {
+    Line::Bed(BedKind { drive, profile })
+}
 
 #[test]
 fn good_lines(rt: HostRuntime) {
@@ -10,20 +18,22 @@ fn good_lines(rt: HostRuntime) {
     assert_eq!(rt; read_line(b" \t\r# cut 1"), Ok(Line::Blank));
     assert_eq!(rt;
         read_line(b"bed phase creep"),
-        Ok(Line::Bed(DriveKind::Phase, ProfileKind::Plain(BaseProfile::Creep)))
+        Ok(bed(DriveKind::Phase, ProfileKind::Plain(BaseProfile::Creep)))
     );
     assert_eq!(rt;
         read_line(b"\tbed\tpulse  creep# the first\r"),
-        Ok(Line::Bed(DriveKind::Pulse, ProfileKind::Plain(BaseProfile::Creep)))
+        Ok(bed(DriveKind::Pulse, ProfileKind::Plain(BaseProfile::Creep)))
     );
     assert_eq!(rt; read_line(b"at -2147483648"), Ok(Line::At(-2147483648)));
     assert_eq!(rt; read_line(b"tripped\r"), Ok(Line::Tripped));
-    let line = CutLine {
+    let line = Cut {
         target: -5,
         start: 0,
         speed: 4294967295,
-        accel: 7,
-        decel: 10,
+        rates: Rates {
+            accel: 7,
+            decel: 10,
+        },
     };
     assert_eq!(rt;
         read_line(b"cut -5 0 4294967295 007 10"),
@@ -57,11 +67,11 @@ fn faults(rt: HostRuntime) {
 fn profiles(rt: HostRuntime) {
     assert_eq!(rt;
         read_line(b"bed pulse smooth 4 creep"),
-        Ok(Line::Bed(DriveKind::Pulse, ProfileKind::Smooth(4, BaseProfile::Creep)))
+        Ok(bed(DriveKind::Pulse, ProfileKind::Smooth(4, BaseProfile::Creep)))
     );
     assert_eq!(rt;
         read_line(b"bed phase smooth 4 smooth 8 ramp"),
-        Ok(Line::Bed(
+        Ok(bed(
             DriveKind::Phase,
             ProfileKind::SmoothTwice(4, 8, BaseProfile::Ramp),
         ))
@@ -86,35 +96,44 @@ fn profiles(rt: HostRuntime) {
 
 #[test]
 fn blends(rt: HostRuntime) {
-    let mut rows = [Row { steps: 0, speed: 0 }; 16];
-    rows[0] = Row {
-        steps: 5,
-        speed: 900,
-    };
-    rows[1] = Row {
-        steps: 7,
-        speed: 800,
-    };
+    let mut rows = RowList::new();
+    assert_eq!(rt;
+        rows.push(Row {
+            steps: 5,
+            speed: 900,
+        }),
+        Ok(())
+    );
+    assert_eq!(rt;
+        rows.push(Row {
+            steps: 7,
+            speed: 800,
+        }),
+        Ok(())
+    );
     let line = BlendLine {
         direction: Direction::Ccw,
         start: 100,
-        accel: 10,
-        decel: 20,
+        rates: Rates {
+            accel: 10,
+            decel: 20,
+        },
         rows,
-        count: 2,
     };
     assert_eq!(rt; line.listed().len(), 2);
     assert_eq!(rt;
         read_line(b"blend ccw 100 10 20 5 900 7 800"),
         Ok(Line::Blend(line))
     );
+    let mut all = RowList::new();
+    for _ in 0..16 {
+        assert_eq!(rt; all.push(Row { steps: 1, speed: 2 }), Ok(()));
+    }
     let full = BlendLine {
         direction: Direction::Cw,
         start: 3,
-        accel: 4,
-        decel: 5,
-        rows: [Row { steps: 1, speed: 2 }; 16],
-        count: 16,
+        rates: Rates { accel: 4, decel: 5 },
+        rows: all,
     };
     assert_eq!(rt;
         read_line(
@@ -150,21 +169,4 @@ fn blend_faults(rt: HostRuntime) {
         read_line(b"blend cw 1 1 1 1 1 x"),
         Err(LineFault::NotANumber)
     );
-}
-
-#[test]
-fn numbers(rt: HostRuntime) {
-    assert_eq!(rt; number(b"2147483647"), Some(2147483647));
-    assert_eq!(rt; number(b"2147483648"), None);
-    assert_eq!(rt; number(b"-2147483648"), Some(-2147483648));
-    assert_eq!(rt; number(b"-2147483649"), None);
-    assert_eq!(rt; number(b"-0"), Some(0));
-    assert_eq!(rt; number(b"-"), None);
-    assert_eq!(rt; number(b"--5"), None);
-    assert_eq!(rt; number(b"+5"), None);
-    assert_eq!(rt; number(b""), None);
-    assert_eq!(rt; natural(b"4294967295"), Some(4294967295));
-    assert_eq!(rt; natural(b"4294967296"), None);
-    assert_eq!(rt; natural(b"99999999999x"), None);
-    assert_eq!(rt; natural(b"-1"), None);
 }

@@ -1,83 +1,83 @@
--- The steps of the loops over a text. Assumes nothing.
-use Rattle.std.proofs.Common.{◌≡◌, ℕ, ◌+◌, ◌<◌, ◌≤◌, true, false, cond, eqb, List, [], ◌∷◌, ◌++◌, length, get_or, take, drop, Some, None, sym, refl, ap, ◌∙◌, add-zero, arith}
-use Rattle.std.proofs.lemmas.List.{append-nil, append_assoc, take_more, take_all, drop_all, get_or-drop, at_drop_more, at_drop_all}
-use Rattle.std.proofs.lemmas.Bool.{eq-eqb, ne_eqb, both_ways, cond-true, cond-false}
-use Rattle.text.specs.Texts.{uncommented, is_blank, ended, words_from, words_of, first_of}
+-- Words and comments of a text, by the places of bytes in it. Assumes nothing.
+use Rattle.std.proofs.Common.{◌≡◌, ℕ, ◌+◌, ◌<◌, Bool, true, false, not, cond, ltb, eqb, List, [], ◌∷◌, ◌++◌, length, take, drop, Some, None, sym, refl, ap, ◌∙◌, arith, one-add, position, unwrap_or}
+use Rattle.std.specs.List.{position_or_len}
+use Rattle.std.proofs.lemmas.List.{append-nil, append_assoc, take_all}
+use Rattle.std.proofs.lemmas.List.Sums.{prefix_len-le-length}
+use Rattle.std.proofs.lemmas.Bool.{cond_both, ltb-true, ltb-false}
+use Rattle.text.specs.Texts.{uncommented, is_blank, is_word_byte, ended, words_from, words_of}
 
-module _ (s : List ℕ) (i : ℕ) where
-  -- one more byte stands before the comment
-  pub uncommented_more : i < length s → (get_or s i 0 ≡ 35 → ⊥) → take (i + 1) s ++ uncommented (drop (i + 1) s) ≡ take i s ++ uncommented (drop i s)
-  uncommented_more h ne =
-      let left : uncommented (drop i s) ≡ cond (eqb (get_or s i 0) 35) [] (get_or s i 0 ∷ uncommented (drop (i + 1) s)) = at_drop_more uncommented s i 0 h in
-      ap (λ l. l ++ uncommented (drop (i + 1) s)) (take_more s i 0 h)
-      ∙ append_assoc (take i s) (get_or s i 0 ∷ []) (uncommented (drop (i + 1) s))
-      ∙ ap (λ l. take i s ++ l) (sym (left ∙ cond-false (eqb (get_or s i 0) 35) [] (get_or s i 0 ∷ uncommented (drop (i + 1) s)) (ne_eqb (get_or s i 0) 35 ne)))
+-- where an element that passes stands first
+module _ {A : Type 0} (p : A → Bool) (s : List A) where
+  pub place_some : (n : ℕ) → Some n ≡ position p s → (n ≡ position_or_len p s) × (n < length s)
+  place_some n =
+      cond_both (ltb (position_or_len p s) (length s)) (Some (position_or_len p s)) None (λ o. Some n ≡ o → (n ≡ position_or_len p s) × (n < length s))
+      (λ t e. let same : n ≡ position_or_len p s = cc in (same, omega (arith, same, ltb-true (position_or_len p s) (length s) t)))
+      (λ t e. absurd (cc))
 
-  -- the comment begins here
-  pub uncommented_at : i < length s → get_or s i 0 ≡ 35 → take i s ≡ take i s ++ uncommented (drop i s)
-  uncommented_at h e =
-      let left : uncommented (drop i s) ≡ cond (eqb (get_or s i 0) 35) [] (get_or s i 0 ∷ uncommented (drop (i + 1) s)) = at_drop_more uncommented s i 0 h in
-      sym (append-nil (take i s)) ∙ ap (λ l. take i s ++ l) (sym (left ∙ cond-true (eqb (get_or s i 0) 35) [] (get_or s i 0 ∷ uncommented (drop (i + 1) s)) (eq-eqb (get_or s i 0) 35 e)))
+  pub place_none : None ≡ position p s → position_or_len p s ≡ length s
+  place_none =
+      cond_both (ltb (position_or_len p s) (length s)) (Some (position_or_len p s)) None (λ o. None ≡ o → position_or_len p s ≡ length s)
+      (λ t e. absurd (cc))
+      (λ t e. omega (arith, ltb-false (position_or_len p s) (length s) t, prefix_len-le-length (λ x. not (p x)) s))
 
-  -- there is no comment
-  pub uncommented_all : length s ≤ i → s ≡ take i s ++ uncommented (drop i s)
-  uncommented_all h =
-      let left : uncommented (drop i s) ≡ [] = at_drop_all uncommented s i h in
-      sym (take_all i s h) ∙ sym (append-nil (take i s)) ∙ ap (λ l. take i s ++ l) (sym left)
+  pub place_or_len : unwrap_or (position p s) (length s) ≡ position_or_len p s
+  place_or_len =
+      cond_both (ltb (position_or_len p s) (length s)) (Some (position_or_len p s)) None (λ o. unwrap_or o (length s) ≡ position_or_len p s)
+      (λ t. refl)
+      (λ t. omega (arith, ltb-false (position_or_len p s) (length s) t, prefix_len-le-length (λ x. not (p x)) s))
 
-  -- what the next byte does to a run
-  step : (run : List ℕ) → i < length s → words_from run (drop i s) ≡ cond (is_blank (get_or s i 0)) (ended run (words_of (drop (i + 1) s))) (words_from (run ++ get_or s i 0 ∷ []) (drop (i + 1) s))
-  step run h = at_drop_more (words_from run) s i 0 h
+-- the comment begins at the first mark
+uncommented_is : (s : List ℕ) → uncommented s ≡ take (position_or_len (λ b. eqb b 35) s) s
+uncommented_is [] = refl
+uncommented_is (b ∷ bs) =
+    elim (eqb b 35) as (λ t. cond t [] (b ∷ uncommented bs) ≡ take (cond (not t) (1 + position_or_len (λ x. eqb x 35) bs) 0) (b ∷ bs)) [
+      | true ↦ refl
+      | false ↦ simp one-add (ap (λ l. b ∷ l) (uncommented_is bs))
+    ]
 
-  at_blank : (run : List ℕ) → i < length s → is_blank (get_or s i 0) ≡ true → words_from run (drop i s) ≡ ended run (words_of (drop (i + 1) s))
-  at_blank run h e = step run h ∙ cond-true (is_blank (get_or s i 0)) _ _ e
+pub comment_some : (s : List ℕ) (n : ℕ) → Some n ≡ position (λ b. eqb b 35) s → take n s ≡ uncommented s
+comment_some s n h = ap (λ i. take i s) (place_some (λ b. eqb b 35) s n h).0 ∙ sym (uncommented_is s)
 
-  -- a blank with no run before it adds no word
-  pub words_more : i < length s → is_blank (get_or s i 0) ≡ true → words_of (drop (i + 1) s) ≡ words_of (drop i s)
-  words_more h e = sym (at_blank [] h e)
+pub comment_none : (s : List ℕ) → None ≡ position (λ b. eqb b 35) s → uncommented s ≡ s
+comment_none s h = uncommented_is s ∙ ap (λ i. take i s) (place_none (λ b. eqb b 35) s h) ∙ take_all (length s) s (omega arith)
 
-  -- one more byte of a run
-  pub run_more : i < length s → is_blank (get_or s i 0) ≡ false → words_from (take (i + 1) s) (drop (i + 1) s) ≡ words_from (take i s) (drop i s)
-  run_more h e =
-      ap (λ l. words_from l (drop (i + 1) s)) (take_more s i 0 h) ∙ sym (step (take i s) h ∙ cond-false (is_blank (get_or s i 0)) _ _ e)
+words_empty : (s : List ℕ) → position_or_len is_word_byte s ≡ length s → words_of s ≡ []
+words_empty [] = λ h. refl
+words_empty (b ∷ bs) =
+    elim (is_blank b) as (λ t. cond (not (not t)) (1 + position_or_len is_word_byte bs) 0 ≡ length (b ∷ bs) → cond t (words_of bs) (words_from (b ∷ []) bs) ≡ []) [
+      | true ↦ λ h. words_empty bs (omega arith)
+      | false ↦ λ h. absurd (omega arith)
+    ]
 
-  -- a run ends at a blank
-  pub run_at : i < length s → is_blank (get_or s i 0) ≡ true → words_from (take i s) (drop i s) ≡ ended (take i s) (words_of (drop i s))
-  run_at h e = at_blank (take i s) h e ∙ ap (ended (take i s)) (words_more h e)
+-- without a byte that is no blank there is no word
+pub words_none : (s : List ℕ) → None ≡ position is_word_byte s → words_of s ≡ []
+words_none s h = words_empty s (place_none is_word_byte s h)
 
-  -- a run ends with the text
-  pub run_all : length s ≤ i → words_from (take i s) (drop i s) ≡ ended (take i s) (words_of (drop i s))
-  run_all h =
-      let none : words_from (take i s) (drop i s) ≡ ended (take i s) [] = at_drop_all (words_from (take i s)) s i h in
-      let left : words_of (drop i s) ≡ [] = at_drop_all words_of s i h in
-      none ∙ ap (ended (take i s)) (sym left)
+-- a run goes on to the next blank
+run_ends : (run s : List ℕ) → words_from run s ≡ ended (run ++ take (position_or_len is_blank s) s) (words_of (drop (position_or_len is_blank s) s))
+run_ends run [] = ap (λ l. ended l []) (sym (append-nil run))
+run_ends run (b ∷ bs) =
+    elim (is_blank b) as (λ t. is_blank b ≡ t → cond t (ended run (words_of bs)) (words_from (run ++ b ∷ []) bs) ≡ ended (run ++ take (cond (not t) (1 + position_or_len is_blank bs) 0) (b ∷ bs)) (words_of (drop (cond (not t) (1 + position_or_len is_blank bs) 0) (b ∷ bs)))) [
+      | true ↦ λ e. rw (append-nil, e) refl
+      | false ↦ λ e. simp one-add (simp append_assoc at (run_ends (run ++ b ∷ []) bs))
+    ] refl
 
-  pub words_none : length s ≤ i → words_of (drop i s) ≡ []
-  words_none h = at_drop_all words_of s i h
+-- the word at the front of a text, and then those after it
+abbrev first_then : List ℕ → List (List ℕ)
+first_then t = take (position_or_len is_blank t) t ∷ words_of (drop (position_or_len is_blank t) t)
 
-  pub words_at : is_blank (get_or s i 0) ≡ false → is_blank (get_or (drop i s) 0 0) ≡ false
-  words_at e = ap is_blank (get_or-drop i s 0 0 ∙ ap (λ k. get_or s k 0) (add-zero i)) ∙ e
+-- the first word begins at the first byte that is no blank, and ends at the first blank after it
+words_some : (s : List ℕ) → position_or_len is_word_byte s < length s → words_of s ≡ first_then (drop (position_or_len is_word_byte s) s)
+words_some [] = λ h. absurd (omega arith)
+words_some (b ∷ bs) =
+    elim (is_blank b) as (λ t. is_blank b ≡ t → cond (not (not t)) (1 + position_or_len is_word_byte bs) 0 < length (b ∷ bs) → cond t (words_of bs) (words_from (b ∷ []) bs) ≡ first_then (drop (cond (not (not t)) (1 + position_or_len is_word_byte bs) 0) (b ∷ bs))) [
+      | true ↦ λ e h. simp one-add (words_some bs (omega arith))
+      | false ↦ λ e h. rw e (simp one-add (run_ends (b ∷ []) bs))
+    ] refl
 
-  -- the same run, by the length of the text
-  pub run_whole : length s ≤ i → words_from (take i s) (drop i s) ≡ ended (take (length s) s) (words_of (drop (length s) s))
-  run_whole h =
-      run_all h
-      ∙ (λ k. ended ((take_all i s h ∙ sym (take_all (length s) s (omega arith))) k) (words_of ((drop_all i s h ∙ sym (drop_all (length s) s (omega arith))) k)))
-
--- a word taken off a text with the words of s, and what is left of the text
-pub words_cut : (s t w r : List ℕ) (n : ℕ) → words_of t ≡ words_of s → words_of t ≡ ended (take n t) (words_of (drop n t)) → w ≡ take n t → r ≡ drop n t → words_of s ≡ ended w (words_of r)
-words_cut s t w r n same parts front back = sym same ∙ parts ∙ (λ k. ended (sym front k) (words_of (sym back k)))
-
-pub some_word : (s w r : List ℕ) → words_of s ≡ ended w (words_of r) → (length w ≡ 0 → ⊥) → (Some w ≡ first_of (words_of s)) × (words_of r ≡ drop 1 (words_of s))
-some_word s [] r e some = absurd (some refl)
-some_word s (b ∷ bs) r e some = (sym (ap first_of e), sym (ap (drop 1) e))
-
--- no word is left of a text that does not begin with a blank only where it is empty
-pub no_word : (s t w r : List ℕ) (n : ℕ) → words_of s ≡ ended w (words_of r) → length w ≡ 0 → n ≡ 0 → r ≡ drop n t
-    → (0 < length t → is_blank (get_or t 0 0) ≡ false) → (n < length t → is_blank (get_or t n 0) ≡ true) → (None ≡ first_of (words_of s)) × (words_of r ≡ drop 1 (words_of s))
-no_word s [] [] r n e empty zero back begins stops =
-    let left : words_of r ≡ [] = ap words_of (back ∙ drop_all n [] (omega arith)) in
-    (sym (ap first_of (e ∙ left)), left ∙ sym (ap (drop 1) (e ∙ left)))
-no_word s (b ∷ bs) [] r n e empty zero back begins stops =
-    absurd (both_ways (is_blank b) (begins (omega arith)) (ap (λ k. is_blank (get_or (b ∷ bs) k 0)) (sym zero) ∙ stops (omega arith)))
-no_word s t (b ∷ bs) r n e empty zero back begins stops = absurd (omega arith)
+-- what is taken off a text at its first word
+pub word_taken : (s : List ℕ) (n m : ℕ) → Some n ≡ position is_word_byte s → m ≡ position_or_len is_blank (drop n s) → take m (drop n s) ∷ words_of (drop m (drop n s)) ≡ words_of s
+word_taken s n m begins ends =
+    let at = place_some is_word_byte s n begins in
+    let parts : take m (drop n s) ∷ words_of (drop m (drop n s)) ≡ first_then (drop n s) = cc in
+    parts ∙ ap (λ i. first_then (drop i s)) at.0 ∙ sym (words_some s (omega (arith, at.0, at.1)))

@@ -1,37 +1,37 @@
--- The steps of a loop over a text that looks for the end of its first line. Assumes nothing.
-use Rattle.std.proofs.Common.{◌≡◌, ℕ, ◌+◌, ◌<◌, ◌≤◌, cond, eqb, List, [], ◌∷◌, ◌++◌, length, get_or, take, drop, Some, sym, refl, ap, ◌∙◌, arith}
-use Rattle.std.proofs.lemmas.List.{take_more, take_all, at_drop_more, at_drop_all}
-use Rattle.std.proofs.lemmas.Bool.{eq-eqb, ne_eqb, cond-true, cond-false}
-use Rattle.text.specs.Texts.{ended, first_of}
+-- The first line of a text, by the place of its end. Assumes nothing.
+use Rattle.std.proofs.Common.{◌≡◌, ℕ, ◌+◌, ◌<◌, true, false, not, cond, eqb, List, [], ◌∷◌, ◌++◌, length, take, drop, sym, refl, ap, ◌∙◌, arith, one-add, add-one, Some, None, position}
+use Rattle.std.specs.List.{position_or_len}
+use Rattle.std.proofs.lemmas.List.{append-nil, append_assoc}
+use Rattle.text.specs.Texts.{ended}
+use Rattle.text.proofs.TextLaws.{place_some, place_none}
 use Rattle.text.specs.TextLines.{lines_from, lines_of}
 
-ended_some : (bs : List ℕ) → 0 < length bs → ended bs [] ≡ bs ∷ []
-ended_some [] h = absurd (omega arith)
-ended_some (b ∷ bs) h = refl
+abbrev line_len : List ℕ → ℕ
+line_len s = position_or_len (λ b. eqb b 10) s
 
--- an empty text has no lines
-pub lines_none : (bs : List ℕ) → length bs ≡ 0 → lines_of bs ≡ []
-lines_none [] h = refl
-lines_none (b ∷ bs) h = absurd (omega arith)
+line_from : (line s : List ℕ) → line_len s < length s → lines_from line s ≡ (line ++ take (line_len s) s) ∷ lines_of (drop (line_len s + 1) s)
+line_from line [] = λ h. absurd (omega arith)
+line_from line (b ∷ bs) =
+    elim (eqb b 10) as (λ t. cond (not t) (1 + line_len bs) 0 < length (b ∷ bs) → cond t (line ∷ lines_of bs) (lines_from (line ++ b ∷ []) bs) ≡ (line ++ take (cond (not t) (1 + line_len bs) 0) (b ∷ bs)) ∷ lines_of (drop (cond (not t) (1 + line_len bs) 0 + 1) (b ∷ bs))) [
+      | true ↦ λ h. rw append-nil refl
+      | false ↦ λ h. simp (one-add, add-one) (simp (append_assoc, add-one) at (line_from (line ++ b ∷ []) bs (omega arith)))
+    ]
 
-module _ (s : List ℕ) (i : ℕ) where
-  step : (line : List ℕ) → i < length s → lines_from line (drop i s) ≡ cond (eqb (get_or s i 0) 10) (line ∷ lines_of (drop (i + 1) s)) (lines_from (line ++ get_or s i 0 ∷ []) (drop (i + 1) s))
-  step line h = at_drop_more (lines_from line) s i 0 h
+-- a text with an end of line
+pub line_some : (s : List ℕ) (n : ℕ) → Some n ≡ position (λ b. eqb b 10) s → take n s ∷ lines_of (drop (n + 1) s) ≡ lines_of s
+line_some s n h =
+    let end = place_some (λ b. eqb b 10) s n h in
+    ap (λ i. take i s ∷ lines_of (drop (i + 1) s)) end.0 ∙ sym (line_from [] s (omega (arith, end.0, end.1)))
 
-  -- one more byte of the line
-  pub line_more : i < length s → (get_or s i 0 ≡ 10 → ⊥) → lines_from (take (i + 1) s) (drop (i + 1) s) ≡ lines_from (take i s) (drop i s)
-  line_more h ne =
-      ap (λ l. lines_from l (drop (i + 1) s)) (take_more s i 0 h) ∙ sym (step (take i s) h ∙ cond-false (eqb (get_or s i 0) 10) _ _ (ne_eqb (get_or s i 0) 10 ne))
+line_all : (line s : List ℕ) → line_len s ≡ length s → lines_from line s ≡ ended (line ++ s) []
+line_all line [] = λ h. rw append-nil refl
+line_all line (b ∷ bs) =
+    elim (eqb b 10) as (λ t. cond (not t) (1 + line_len bs) 0 ≡ length (b ∷ bs) → cond t (line ∷ lines_of bs) (lines_from (line ++ b ∷ []) bs) ≡ ended (line ++ b ∷ bs) []) [
+      | true ↦ λ h. absurd (omega arith)
+      | false ↦ λ h. simp append_assoc at (line_all (line ++ b ∷ []) bs (omega arith))
+    ]
 
-  -- the line ends here
-  pub line_at : i < length s → get_or s i 0 ≡ 10 → lines_from (take i s) (drop i s) ≡ take i s ∷ lines_of (drop (i + 1) s)
-  line_at h e = step (take i s) h ∙ cond-true (eqb (get_or s i 0) 10) _ _ (eq-eqb (get_or s i 0) 10 e)
-
-  -- it ends with the text
-  pub line_all : length s ≤ i → 0 < length s → lines_from (take i s) (drop i s) ≡ s ∷ []
-  line_all h some = at_drop_all (lines_from (take i s)) s i h ∙ (ap (λ l. ended l []) (take_all i s h) ∙ ended_some s some)
-
--- a line taken off leaves fewer
-pub lines_fewer : (ls : List (List ℕ)) (line : List ℕ) → Some line ≡ first_of ls → length (drop 1 ls) < length ls
-lines_fewer [] line e = let z : ◌≡◌ {A = ℕ} 0 1 = cc in absurd (omega arith)
-lines_fewer (l ∷ ls) line e = omega arith
+-- a text without an end of line
+pub line_only : (s : List ℕ) → None ≡ position (λ b. eqb b 10) s → 0 < length s → lines_of s ≡ s ∷ []
+line_only [] h some = absurd (omega arith)
+line_only (b ∷ bs) h some = line_all [] (b ∷ bs) (place_none (λ x. eqb x 10) (b ∷ bs) h)

@@ -1,6 +1,6 @@
 -- A text is a list of bytes. A comment begins at the first '#' (35) and goes to the end.
 -- Words are the longest runs of bytes other than blanks: space (32), tab (9) and carriage return (13).
-use Rattle.std.specs.Prelude.{ℕ, Bool, cond, ◌||◌, List, [], ◌∷◌, ◌++◌, Some, None, Option, ◌==◌}
+use Rattle.std.specs.Prelude.{ℕ, Bool, cond, not, ◌||◌, List, [], ◌∷◌, ◌++◌, Some, None, Option, ◌==◌}
 use Rattle.text.specs.declared.text.Words.{Words}
 
 -- what stands before the comment
@@ -10,6 +10,10 @@ uncommented (b ∷ bs) = cond (b == 35) [] (b ∷ uncommented bs)
 
 abbrev pub is_blank : ℕ → Bool
 is_blank b = b == 32 || (b == 9 || b == 13)
+
+-- a byte that is no blank
+abbrev pub is_word_byte : ℕ → Bool
+is_word_byte b = not (is_blank b)
 
 -- a run that ends before ws is a word where it has a byte
 abbrev pub ended : List ℕ → List (List ℕ) → List (List ℕ)

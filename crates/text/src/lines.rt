@@ -1,22 +1,22 @@
 // The lines of a text.
-ghost use Rattle.std.specs.Prelude.{◌≡◌, ◌<◌, ◌∷◌, length, drop};
-ghost use Rattle.std.specs.Option.{option_map};
-ghost use Rattle.text.specs.Texts.{first_of};
+ghost use Rattle.std.specs.Prelude.{◌≡◌, ◌<◌, ◌∷◌, length};
+ghost use Rattle.std.specs.Iterator.{YieldsFirstRef, item_count};
 ghost use Rattle.text.specs.TextLines.{lines_of, lines_left};
 
+use crate::text::place_of;
+
 // The first line of a text that is not empty, and what comes after its end.
+#[tactic(auto, using(crate::proofs::TextLineLaws::line_some, crate::proofs::TextLineLaws::line_only, std::proofs::lemmas::List::take_rest))]
 fn split_line(text: &[u8]) -> (&[u8], &[u8])
     ensures { 0 < length text.now → lines_of text.now ≡ result.0.now ∷ lines_of result.1.now }
 {
-    for (i, b) in text.iter().enumerate() {
-        if *b == b'\n' {
-            return (&text[0..i], &text[i + 1..]);
-        }
+    match place_of(b'\n', text) {
+        Some(end) => (&text[..end], &text[end + 1..]),
+        None => (text, &[]),
     }
-    (text, &[])
 }
 
-// The lines of a text, taken off one by one from its beginning.
+// The lines of a text, one by one from its beginning.
 #[derive(Drop)]
 pub struct Lines<'a> {
     rest: &'a [u8],
@@ -28,12 +28,17 @@ impl<'a> Lines<'a> {
     {
         Lines { rest: text }
     }
+}
+
+impl<'a> Iterator for Lines<'a> {
+    type Item = &'a [u8];
+
+    ghost next_gives = { YieldsFirstRef lines_left };
+
+    ghost remaining = { item_count lines_left };
 
     // Takes the next line off, if there is one.
-    pub fn next_line(&mut self) -> Option<&'a [u8]>
-        ensures line { option_map (λ x. x.now) result ≡ first_of (lines_left self.old) }
-        ensures left { lines_left self.new ≡ drop 1 (lines_left self.old) }
-    {
+    fn next(&mut self) -> Option<&'a [u8]> {
         if self.rest.is_empty() {
             return None;
         }

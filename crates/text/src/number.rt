@@ -3,6 +3,7 @@ ghost use Rattle.std.specs.Prelude.{◌≡◌, ◌^◌, ◌≤◌};
 ghost use Rattle.text.specs.Decimals.{below, digits_of, natural_of, positive_of, negative_of, signed_of, number_of, bits_of, word_of};
 
 // The number that one or more digits write in a base.
+#[tactic(auto, using(crate::proofs::DecimalLaws::digits_large))]
 fn in_base(base: u32, digits: &[u8]) -> Option<u32>
     requires least { 2 ≤ base }
     requires most { base ≤ 36 }
@@ -12,6 +13,7 @@ fn in_base(base: u32, digits: &[u8]) -> Option<u32>
         return None;
     }
     let mut value: u32 = 0;
+    // No `try_fold`: its closure would hold the same two steps that can fail, and be no plainer.
     for b in digits {
         let digit = char::from(*b).to_digit(base)?;
         value = value.checked_mul(base)?.checked_add(digit)?;

@@ -1,4 +1,28 @@
+use crate::lines::Lines;
 use crate::number::{natural, number, word};
+use crate::text::{Words, uncommented};
+
+#[test]
+fn lines_of_a_text(rt: HostRuntime) {
+    let mut lines = Lines::of(b"at 5\n\n# none\ncut");
+    assert_eq!(rt; lines.next(), Some(b"at 5".as_slice()));
+    assert_eq!(rt; lines.next(), Some(b"".as_slice()));
+    assert_eq!(rt; lines.next(), Some(b"# none".as_slice()));
+    assert_eq!(rt; lines.next(), Some(b"cut".as_slice()));
+    assert_eq!(rt; lines.next(), None);
+    assert_eq!(rt; Lines::of(b"at 5\n").count(), 1);
+    assert_eq!(rt; Lines::of(b"").count(), 0);
+}
+
+#[test]
+fn words_of_a_line(rt: HostRuntime) {
+    let mut words = Words::of(uncommented(b" \tcut\t-5  #3\r# 4"));
+    assert_eq!(rt; words.next(), Some(b"cut".as_slice()));
+    assert_eq!(rt; words.next(), Some(b"-5".as_slice()));
+    assert_eq!(rt; words.next(), None);
+    assert_eq!(rt; words.next(), None);
+    assert_eq!(rt; Words::of(b"a b\rc\n ").count(), 3);
+}
 
 #[test]
 fn naturals(rt: HostRuntime) {

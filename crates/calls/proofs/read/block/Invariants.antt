@@ -1,11 +1,9 @@
-use Rattle.std.proofs.Common.{◌≡◌, length, vec_items}
+use Rattle.std.proofs.Common.{◌≡◌, ◌++◌, vec_items}
 use Rattle.text.specs.Texts.{words_left}
+use Rattle.bed.specs.Words.{making}
 use Rattle.calls.specs.Lines.{block_of}
-use Rattle.calls.proofs.BlockLaws.{onto}
 use Rattle.calls.proofs.read.block.Given as goal
 
-abbrev pub invariant-loop-text : goal.invariant-loop-text
-invariant-loop-text l = onto (vec_items l.block) (block_of (words_left l.words)) ≡ block_of (words_left l.initial.words)
-
-abbrev pub decreases-loop-text : goal.decreases-loop-text
-decreases-loop-text l = length (words_left l.words)
+-- the words so far, and then those that are to be read, are those of the block
+abbrev pub invariant-loop-word : goal.invariant-loop-word
+invariant-loop-word l = making (λ vs. vec_items l.block ++ vs) (block_of (words_left l.word-iterator)) ≡ block_of (words_left l.fn.words)

@@ -1,10 +1,7 @@
-use Rattle.std.proofs.Common.{sym, ◌∙◌, w32, SFits, rules}
+use Rattle.std.proofs.Common.{◌∙◌, w32, SFits, rules}
 use Rattle.std.proofs.lemmas.Int.{to_z-of_z}
-use Rattle.text.proofs.DecimalLaws.{signed_narrow, signed_narrow_none, converted_same}
+use Rattle.text.proofs.DecimalLaws.{signed_narrow, converted_same}
 use Rattle.text.proofs.number.short.Goals as goal
-
-pub returns-in_err-number : goal.returns-in_err-number
-returns-in_err-number c = c.from_residual.ensures ∙ sym (signed_narrow_none c.args.word.now c.in_err-number.ensures)
 
 pub returns : goal.returns
 returns c =

@@ -1,0 +1,36 @@
+use crate::fault::LineFault;
+use crate::kind::{BaseProfile, DriveKind, ProfileKind, bed_kind};
+use crate::word::{FromWord, only};
+use drive::direction::Direction;
+use text::text::Words;
+
+#[test]
+fn beds(rt: HostRuntime) {
+    let bed = bed_kind(Words::of(b"phase smooth 8 smooth 3 creep"));
+    assert_eq!(rt; bed.map(|bed| bed.drive), Ok(DriveKind::Phase));
+    assert_eq!(rt;
+        bed.map(|bed| bed.profile),
+        Ok(ProfileKind::SmoothTwice(8, 3, BaseProfile::Creep))
+    );
+    for (text, fault) in [
+        (b"pulses ramp".as_slice(), LineFault::UnknownDrive),
+        (b"pulse".as_slice(), LineFault::MissingWord),
+        (b"pulse ram".as_slice(), LineFault::UnknownProfile),
+        (b"pulse smooth x ramp".as_slice(), LineFault::NotANumber),
+        (b"pulse smooth 1 ramp 2".as_slice(), LineFault::ExtraWord),
+    ] {
+        assert_eq!(rt; bed_kind(Words::of(text)), Err(fault));
+    }
+}
+
+#[test]
+fn words(rt: HostRuntime) {
+    assert_eq!(rt; only::<i32>(Words::of(b"-5")), Ok(-5));
+    assert_eq!(rt; only::<u32>(Words::of(b"-5")), Err(LineFault::NotANumber));
+    assert_eq!(rt; only::<i16>(Words::of(b"0xffff")), Ok(-1));
+    assert_eq!(rt; Direction::from_word(b"ccw"), Ok(Direction::Ccw));
+    assert_eq!(rt;
+        Direction::from_word(b"cc"),
+        Err(LineFault::UnknownDirection)
+    );
+}

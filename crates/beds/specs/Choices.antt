@@ -1,0 +1,29 @@
+-- The drives and profiles of the beds that a script can name.
+use Rattle.std.specs.Prelude.{◌≡◌, ℕ, ◌+◌, ◌-◌, None}
+use Rattle.bed.specs.declared.kind.DriveKind.{DriveKind}
+use Rattle.bed.specs.declared.kind.DriveKind.TheVariants.{Pulse, Phase}
+use Rattle.bed.specs.declared.kind.ProfileKind.{ProfileKind}
+use Rattle.bed.specs.declared.kind.ProfileKind.TheVariants.{Plain, Smooth, SmoothTwice}
+use Rattle.profile.specs.Profiles.{ProfileMeans}
+use Rattle.smoothing.specs.Lengths.{length_for}
+
+-- the most steps that a drive of a kind goes at once
+abbrev pub reach_of : DriveKind → ℕ
+reach_of Pulse = 200
+reach_of Phase = 20
+
+-- a smoothing of a length lags behind the profile below
+abbrev pub smoothed_lag : ℕ → ℕ → ℕ
+smoothed_lag lag length = lag + (length_for length - 1)
+
+abbrev pub lag_of : ProfileKind → ℕ
+lag_of (Plain base) = 0
+lag_of (Smooth length base) = smoothed_lag 0 length
+lag_of (SmoothTwice outer inner base) = smoothed_lag (smoothed_lag 0 inner) outer
+
+-- a profile that has had no plan, and its lag
+pub record Fresh (lag : ℕ) (m : ProfileMeans) : Type 0 where
+  pub plan : m.plan ≡ None
+  pub asked : m.asked ≡ 0
+  pub gone : m.gone ≡ 0
+  pub lags : m.lag ≡ lag

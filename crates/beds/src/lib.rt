@@ -1,0 +1,7 @@
+// The drives and profiles of the beds that a script can name.
+#![tactic(auto)]
+
+pub mod choice;
+pub mod motor;
+#[cfg(test)]
+mod tests;

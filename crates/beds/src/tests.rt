@@ -1,0 +1,77 @@
+use crate::choice::{OnBed, on_bed};
+use crate::motor::Motor;
+use bed::kind::{BaseProfile, BedKind, DriveKind, ProfileKind};
+use profile::plan::Plan;
+use profile::rates::Rates;
+use profile::row::Row;
+use profile::traits::Profile;
+
+// The coil byte of the drive, and the third advance of two steps at 300 with S = A = D = 100.
+#[derive(Drop)]
+struct ThirdAdvance;
+
+impl OnBed for ThirdAdvance {
+    type Output = (Option<u8>, u32);
+
+    ghost Comes = { λ _ _ _ _ _. Unit {0} };
+
+    fn run<D: Motor + Drop, P: Profile + Drop>(
+        self,
+        drive: D,
+        mut profile: P,
+    ) -> (Option<u8>, u32) {
+        let rates = Rates {
+            accel: 100,
+            decel: 100,
+        };
+        let row = Row {
+            steps: 2,
+            speed: 300,
+        };
+        if let Ok(plan) = Plan::new(100, rates, &[row]) {
+            profile.begin(plan);
+        }
+        profile.tick();
+        profile.tick();
+        (drive.coil_byte(), profile.tick())
+    }
+}
+
+#[test]
+fn kinds(rt: HostRuntime) {
+    for (drive, profile, coils, advance) in [
+        (
+            DriveKind::Pulse,
+            ProfileKind::Plain(BaseProfile::Creep),
+            None,
+            100u32,
+        ),
+        (
+            DriveKind::Phase,
+            ProfileKind::Plain(BaseProfile::Ramp),
+            Some(1u8),
+            300,
+        ),
+        (
+            DriveKind::Pulse,
+            ProfileKind::Smooth(4, BaseProfile::Ramp),
+            None,
+            150,
+        ),
+        (
+            DriveKind::Phase,
+            ProfileKind::Smooth(4, BaseProfile::Creep),
+            Some(1),
+            75,
+        ),
+        (
+            DriveKind::Pulse,
+            ProfileKind::SmoothTwice(2, 4, BaseProfile::Ramp),
+            None,
+            113,
+        ),
+    ] {
+        let told = on_bed(BedKind { drive, profile }, ThirdAdvance);
+        assert_eq!(rt; told, (coils, advance));
+    }
+}

@@ -1,6 +1,0 @@
-use Rattle.std.proofs.Common.{◌≡◌, ◌++◌, take, drop}
-use Rattle.script.specs.Texts.{uncommented}
-use Rattle.script.proofs.text.uncommented.Given as goal
-
-abbrev pub invariant-loop-i : goal.invariant-loop-i
-invariant-loop-i l = take l.i l.text ++ uncommented (drop l.i l.text) ≡ uncommented l.text
