@@ -4,14 +4,15 @@ use Rattle.std.proofs.lemmas.Bool.{cases_eq}
 use Rattle.drive.specs.Directions.{signed}
 use Rattle.drive.proofs.Deliveries.{signed_none}
 use Rattle.drive.proofs.Landings.{nat_abs_signed, signed_zero, signed_stays, signed_joins, between, lands}
-use Rattle.drive.specs.Drives.{DriveMeans, Moved, landing, landed, answering}
+use Rattle.drive.specs.Drives.{DriveMeans, Moved, landing}
 use Rattle.drive.specs.Positions.{is_position}
 use Rattle.drive.specs.declared.fault.DriveFault.{DriveFault}
 use Rattle.drive.specs.declared.direction.Direction.{Direction}
 use Rattle.profile.specs.Plans.{PlanMeans, plan_steps}
 use Rattle.profile.specs.Profiles.{ProfileMeans, Sound, Begun, Ticked, fastest}
-use Rattle.cut.specs.Travels.{Ready, Ticks, greatest, Travelled}
-use Rattle.cut.specs.declared.travel.Travel.{Travel}
+use Rattle.cut.specs.Cuts.{Carried, blend_end}
+use Rattle.cut.specs.Travels.{Ready, Ticks, greatest}
+use Rattle.cut.specs.declared.order.Report.{Report}
 
 -- so many ticks and steps, with the peak k, after a drive set out from a place, with a profile that began as `first`
 pub record Rolling (way : Direction) (from : ℤ) (first : ProfileMeans) (d : DriveMeans) (p : ProfileMeans) (t s k : ℕ) : Type 0 where
@@ -47,9 +48,7 @@ module _ {g : ℕ} {way : Direction} {d₀ : DriveMeans} {plan : PlanMeans} {p�
   sets_out =
       let none : first.gone / 1000 ≡ 0 = rw (ap (λ x. x.gone) o.begun.after) refl in
       record {
-        drive =
-            let e : d₀.place ≡ d₀.place +ℤ signed way (first.gone / 1000) = sym (ap (λ n. d₀.place +ℤ signed way n) none ∙ signed_stays way d₀.place) in
-            ap (λ b. record { place = d₀.place; tripped = b }) o.ready.untripped ∙ ap (λ z. record { place = z; tripped = false }) e;
+        drive = rw (none, signed_stays, ← o.ready.untripped);
         profile = refl;
         fewer = omega arith;
         ticks = omega arith;
@@ -65,15 +64,18 @@ module _ {g : ℕ} {way : Direction} {d₀ : DriveMeans} {plan : PlanMeans} {p�
 
     slow : r ≤ 1000 * g
     slow =
-        let e : p.plan ≡ Some plan = ap (λ x. x.plan) u.roll.profile ∙ ap (λ x. x.plan) o.begun.after in
+        let e : p.plan ≡ Some plan = cc (u.roll.profile, o.begun.after) in
         omega (arith, u.ticked.within, ap fastest e, o.ready.slow)
 
     grows : p'.gone ≡ p.gone + r
-    grows = ap (λ x. x.gone) u.ticked.after
+    grows = cc u.ticked.after
+
+    pub falls : p'.left ≡ p.left - 1
+    falls = cc u.ticked.after
 
     short : p'.gone / 1000 ≤ plan_steps plan
     short =
-        let e : p'.asked ≡ 1000 * plan_steps plan = ap (λ x. x.asked) u.ticked.after ∙ (ap (λ x. x.asked) u.roll.profile ∙ ap (λ x. x.asked) o.begun.after) in
+        let e : p'.asked ≡ 1000 * plan_steps plan = cc (u.ticked.after, u.roll.profile, o.begun.after) in
         omega (arith, e, u.sound.reached)
 
     later : p.gone / 1000 ≤ p'.gone / 1000
@@ -82,11 +84,10 @@ module _ {g : ℕ} {way : Direction} {d₀ : DriveMeans} {plan : PlanMeans} {p�
     -- the drive takes the steps that are due
     takes : landing g d (signed way due) ≡ Ok (d₀.place +ℤ signed way (p'.gone / 1000))
     takes =
-        let e : d.place +ℤ signed way due ≡ d₀.place +ℤ signed way (p'.gone / 1000) =
-        ap (λ x. x.place +ℤ signed way due) u.roll.drive ∙ signed_joins way d₀.place (p.gone / 1000) (p'.gone / 1000) later in
+        let e : d.place +ℤ signed way due ≡ d₀.place +ℤ signed way (p'.gone / 1000) = cc (u.roll.drive, signed_joins way d₀.place (p.gone / 1000) (p'.gone / 1000) later) in
         let few : nat_abs (signed way due) ≤ g = rw (nat_abs_signed way due) (omega (arith, grows, slow)) in
         let P : ℤ → Type 0 = λ z. is_position z ≡ true in
-        lands g d (signed way due) (ap (λ x. x.tripped) u.roll.drive) few
+        lands g d (signed way due) (cc u.roll.drive) few
         (subst P (sym e) (between way d₀.place (plan_steps plan) (p'.gone / 1000) o.placed o.ready.ends short))
         ∙ ap Ok e
 
@@ -99,16 +100,10 @@ module _ {g : ℕ} {way : Direction} {d₀ : DriveMeans} {plan : PlanMeans} {p�
         ⊎_elim
         (λ (z : due ≡ 0).
         let w = none (e ∙ (ap (signed way) z ∙ signed_zero way)) in
-        let same : p.gone / 1000 ≡ p'.gone / 1000 = omega (arith, later) in (
-          w.0 ∙ ap Ok (sym (e ∙ (ap (signed way) z ∙ signed_zero way))),
-          w.1 ∙ (u.roll.drive ∙ ap (λ k. record { place = d₀.place +ℤ signed way k; tripped = false }) same),
-        ))
+        let same : p.gone / 1000 ≡ p'.gone / 1000 = omega (arith, later) in (cc (w.0, e, z, signed_zero way), cc (w.1, u.roll.drive, same)))
         (λ (z : due ≡ 0 → ⊥).
         let v = some (λ h. z (signed_none way due (sym e ∙ h))) in
-        let to : landing g d n ≡ Ok (d₀.place +ℤ signed way (p'.gone / 1000)) = ap (landing g d) e ∙ takes in (
-          v.answer ∙ ap (λ x. answering x n) to,
-          v.after ∙ (ap (landed d) to ∙ ap (λ b. record { place = d₀.place +ℤ signed way (p'.gone / 1000); tripped = b }) (ap (λ x. x.tripped) u.roll.drive)),
-        ))
+        let to : landing g d n ≡ Ok (d₀.place +ℤ signed way (p'.gone / 1000)) = cc (e, takes) in (rw to at v.answer, cc (rw to at v.after, u.roll.drive)))
         (cases_eq due 0)
 
     -- one turn on
@@ -117,13 +112,12 @@ module _ {g : ℕ} {way : Direction} {d₀ : DriveMeans} {plan : PlanMeans} {p�
         → d' ≡ record { place = d₀.place +ℤ signed way (p'.gone / 1000); tripped = false }
         → t' ≡ min (t + 1) 18446744073709551615 → s' ≡ s + nat_abs n → k' ≡ max r k → Rolling way d₀.place first d' p' t' s' k'
     goes_on n d' t' s' k' some e there time gained most =
-        let fall : p'.left ≡ p.left - 1 = ap (λ x. x.left) u.ticked.after in
         record {
           drive = there;
           profile = u.ticked.after ∙ (ap (λ x. record { plan = x.plan; asked = x.asked; gone = p.gone + r; left = p.left - 1; lag = x.lag }) u.roll.profile
-              ∙ ap₂ (λ a b. record { plan = first.plan; asked = first.asked; gone = a; left = b; lag = first.lag }) (sym grows) (sym fall));
-          fewer = omega (arith, u.roll.fewer);
-          ticks = omega (arith, u.roll.fewer, u.roll.ticks, some);
+              ∙ ap₂ (λ a b. record { plan = first.plan; asked = first.asked; gone = a; left = b; lag = first.lag }) (sym grows) (sym falls));
+          fewer = omega (arith, u.roll.fewer, falls);
+          ticks = omega (arith, u.roll.fewer, u.roll.ticks, some, falls);
           steps = omega (arith, gained, u.roll.steps, ap nat_abs e, nat_abs_signed way due, later);
           advances = u.roll.advances ++ r ∷ [];
           ticked = Ticks.more u.roll.ticked u.ticked;
@@ -134,20 +128,27 @@ module _ {g : ℕ} {way : Direction} {d₀ : DriveMeans} {plan : PlanMeans} {p�
     fits n e = omega (arith, u.roll.steps, ap nat_abs e, nat_abs_signed way due, later, u.sound.reached, u.sound.near)
 
   -- at its end
-  pub ends : (d : DriveMeans) (p : ProfileMeans) (r : Travel) → Rolling way d₀.place first d p r.ticks r.steps r.peak → Sound p → p.left ≡ 0 → Travelled d₀ p₀ plan way r d p
-  ends d p r roll sound none =
-      let asked : p.asked ≡ 1000 * plan_steps plan = ap (λ x. x.asked) roll.profile ∙ ap (λ x. x.asked) o.begun.after in
+  pub ends :
+      (d : DriveMeans) (p : ProfileMeans) (r : Report) → Rolling way d₀.place first d p r.ticks r.steps r.peak → Sound p → p.left ≡ 0
+      → r.from ≡ d₀.place → r.target ≡ blend_end d₀ plan way → r.to ≡ d.place → Carried plan (blend_end d₀ plan way) d₀ p₀ r d p
+  ends d p r roll sound none from sent to =
+      let asked : p.asked ≡ 1000 * plan_steps plan = cc (roll.profile, o.begun.after) in
       let gone : p.gone ≡ 1000 * plan_steps plan = sound.done none ∙ asked in
       let whole : p.gone / 1000 ≡ plan_steps plan = omega (arith, gone) in
+      let there : d ≡ record { place = blend_end d₀ plan way; tripped = d₀.tripped } = cc (roll.drive, whole, o.ready.untripped) in
+      let ticks : r.ticks ≡ min first.left 18446744073709551615 = omega (arith, roll.ticks, none) in
       record {
+        from = from;
+        sent = sent;
+        to = to ∙ ap (λ x. x.place) there;
+        steps = roll.steps ∙ whole;
         begun = first;
         begins = o.begun;
         advances = roll.advances;
         ticked = roll.ticked;
         peak = roll.peak;
-        ticks = omega (arith, roll.ticks, none);
-        steps = roll.steps ∙ whole;
-        drive = roll.drive ∙ ap (λ k. record { place = d₀.place +ℤ signed way k; tripped = false }) whole;
-        profile = roll.profile ∙ (ap (λ x. record { plan = x.plan; asked = x.asked; gone = p.gone; left = p.left; lag = x.lag }) o.begun.after
-            ∙ ap₂ (λ a b. record { plan = Some plan; asked = 1000 * plan_steps plan; gone = a; left = b; lag = p₀.lag }) gone none);
+        ticks = ticks;
+        in_time = omega (arith, ticks, o.begun.soon);
+        drive = there;
+        profile = cc (roll.profile, o.begun.after, gone, none);
       }

@@ -19,14 +19,14 @@ judged g d c =
     cond (not (is_position c.target)) (Some fault.Target)
     (cond (outside 1 (1000 * g) c.start) (Some fault.Start)
     (cond (outside c.start (1000 * g) c.speed) (Some fault.Speed)
-    (cond (outside 1 5000 c.accel) (Some fault.Acceleration)
-    (cond (outside 1 5000 c.decel) (Some fault.Deceleration)
+    (cond (outside 1 5000 c.rates.accel) (Some fault.Acceleration)
+    (cond (outside 1 5000 c.rates.decel) (Some fault.Deceleration)
     (cond d.tripped (Some fault.Tripped)
     (cond (distance d.place c.target == 0) (Some fault.NoStep) None))))))
 
 -- the plan of a cut that goes so many steps: one row
 abbrev pub one_row : Cut → ℕ → PlanMeans
-one_row c n = record { start = c.start; accel = c.accel; decel = c.decel; rows = record { steps = n; speed = c.speed } ∷ [] }
+one_row c n = record { start = c.start; accel = c.rates.accel; decel = c.rates.decel; rows = record { steps = n; speed = c.speed } ∷ [] }
 
 -- where a plan in one direction ends
 abbrev pub blend_end : DriveMeans → PlanMeans → Direction → ℤ

@@ -1,4 +1,5 @@
 // A cut as it is asked for, and as it was made.
+use profile::rates::Rates;
 
 // To `target`, from the starting speed to `speed`, both in millisteps a tick.
 #[derive(Clone, Copy, PartialEq, Eq, Debug)]
@@ -6,8 +7,7 @@ pub struct Cut {
     pub target: i32,
     pub start: u32,
     pub speed: u32,
-    pub accel: u32,
-    pub decel: u32,
+    pub rates: Rates,
 }
 
 // Where a cut began, where it was sent and where it ended, the ticks and steps that it took, and its greatest advance in a tick.

@@ -9,19 +9,34 @@ use drive::pulse::PulseDrive;
 use drive::traits::Drive;
 use profile::creep::Creep;
 use profile::plan::Plan;
+use profile::rates::Rates;
 use profile::row::Row;
 use std::test::Fail;
+
+const RATES: Rates = Rates {
+    accel: 50,
+    decel: 50,
+};
 
 const CUT: Cut = Cut {
     target: 2500,
     start: 100,
     speed: 300,
-    accel: 50,
-    decel: 50,
+    rates: RATES,
 };
 
 fn pulse_cut(drive: &mut PulseDrive, cut: Cut) -> Result<Report, CutFault> {
     make_cut(drive, &mut Creep::new(), cut, &mut Unwatched)
+}
+
+fn phase_blend(
+    drive: &mut PhaseDrive,
+    creep: &mut Creep,
+    rows: &[Row],
+    direction: Direction,
+) -> Result<Result<Report, CutFault>, Fail> {
+    let plan = Plan::new(900, RATES, rows)?;
+    Ok(make_blend(drive, creep, plan, direction, &mut Unwatched))
 }
 
 #[test]
@@ -123,11 +138,26 @@ fn refuses_and_stays(rt: HostRuntime) {
         Err(CutFault::Speed)
     );
     assert_eq!(rt;
-        pulse_cut(&mut drive, Cut { accel: 0, ..CUT }),
+        pulse_cut(
+            &mut drive,
+            Cut {
+                rates: Rates { accel: 0, ..RATES },
+                ..CUT
+            },
+        ),
         Err(CutFault::Acceleration)
     );
     assert_eq!(rt;
-        pulse_cut(&mut drive, Cut { decel: 5001, ..CUT }),
+        pulse_cut(
+            &mut drive,
+            Cut {
+                rates: Rates {
+                    decel: 5001,
+                    ..RATES
+                },
+                ..CUT
+            },
+        ),
         Err(CutFault::Deceleration)
     );
     assert_eq!(rt;
@@ -143,6 +173,16 @@ fn refuses_and_stays(rt: HostRuntime) {
 }
 
 #[test]
+fn refusals_are_told_in_words(rt: HostRuntime) -> Result<(), Fail> {
+    let told = format!(in rt.alloc(); "{}; {}", CutFault::Start, CutFault::NoStep)?;
+    assert_eq!(rt;
+        told.as_str(),
+        "the starting speed is out of range (1 to 1000 times the drive's steps a tick); the drive already stands at the target"
+    );
+    Ok(())
+}
+
+#[test]
 fn blends_go_their_rows(rt: HostRuntime) -> Result<(), Fail> {
     let rows = [
         Row {
@@ -154,7 +194,6 @@ fn blends_go_their_rows(rt: HostRuntime) -> Result<(), Fail> {
             speed: 20_000,
         },
     ];
-    let plan = Plan::new(900, 50, 50, &rows)?;
     let mut drive = PhaseDrive::new();
     let mut creep = Creep::new();
     let report = Report {
@@ -166,30 +205,25 @@ fn blends_go_their_rows(rt: HostRuntime) -> Result<(), Fail> {
         peak: 900,
     };
     assert_eq!(rt;
-        make_blend(&mut drive, &mut creep, plan, Direction::Ccw, &mut Unwatched),
+        phase_blend(&mut drive, &mut creep, &rows, Direction::Ccw)?,
         Ok(report)
     );
     assert!(rt; drive.set(8_388_565).is_ok());
     assert_eq!(rt;
-        make_blend(&mut drive, &mut creep, plan, Direction::Cw, &mut Unwatched),
+        phase_blend(&mut drive, &mut creep, &rows, Direction::Cw)?,
         Err(CutFault::Target)
     );
-    let fast = Plan::new(
-        900,
-        50,
-        50,
-        &[Row {
-            steps: 1,
-            speed: 20_001,
-        }],
-    )?;
+    let fast = [Row {
+        steps: 1,
+        speed: 20_001,
+    }];
     assert_eq!(rt;
-        make_blend(&mut drive, &mut creep, fast, Direction::Ccw, &mut Unwatched),
+        phase_blend(&mut drive, &mut creep, &fast, Direction::Ccw)?,
         Err(CutFault::Speed)
     );
     drive.trip();
     assert_eq!(rt;
-        make_blend(&mut drive, &mut creep, plan, Direction::Ccw, &mut Unwatched),
+        phase_blend(&mut drive, &mut creep, &rows, Direction::Ccw)?,
         Err(CutFault::Tripped)
     );
     assert_eq!(rt; drive.place(), 8_388_565);

@@ -1,11 +1,13 @@
 // A plan, travelled to its end.
-ghost use Rattle.std.specs.Prelude.{◌-◌, ◌/◌};
+ghost use Rattle.std.specs.Prelude.{◌≡◌, ◌-◌, ◌/◌};
 ghost use Rattle.drive.specs.Deliveries.{Delivered};
 ghost use Rattle.drive.specs.Directions.{signed};
 ghost use Rattle.profile.specs.Plans.{plan_means};
 ghost use Rattle.profile.specs.Profiles.{Ticked};
-ghost use Rattle.cut.specs.Travels.{Ready, Travelled};
+ghost use Rattle.cut.specs.Cuts.{Carried, blend_end};
+ghost use Rattle.cut.specs.Travels.{Ready};
 
+use crate::order::Report;
 use crate::watch::Watch;
 use drive::direction::Direction;
 use drive::fault::DriveFault;
@@ -14,12 +16,11 @@ use drive::traits::Drive;
 use profile::plan::Plan;
 use profile::traits::Profile;
 
-// The ticks and the steps that a plan took, and the greatest advance of a tick.
-#[derive(Clone, Copy)]
-pub(crate) struct Travel {
-    pub(crate) ticks: u64,
-    pub(crate) steps: u32,
-    pub(crate) peak: u32,
+// Where a plan leads that is travelled in one direction.
+pub(crate) fn end_of<D: Drive>(drive: &D, plan: &Plan, direction: Direction) -> i32
+    ensures { result ≡ blend_end (D.Drive.means drive.now) (plan_means plan.now) direction }
+{
+    drive.place() + direction.signed(plan.steps() as u64)
 }
 
 // One tick of the profile, and its advance; the steps that it makes due go to the drive.
@@ -29,24 +30,26 @@ fn tick_once<D: Drive, P: Profile>(
     direction: Direction,
 ) -> (u32, Result<i32, DriveFault>)
     ensures ticked { Ticked (P.Profile.means profile.old) result.0 (P.Profile.means profile.new) }
-    ensures sent { Delivered D.Drive.means D.Drive.reach (signed direction ((P.Profile.means profile.new).gone / 1000 - (P.Profile.means profile.old).gone / 1000)) drive.old result.1 drive.new }
+    ensures sent { Delivered D.Drive.means D.Drive.G (signed direction ((P.Profile.means profile.new).gone / 1000 - (P.Profile.means profile.old).gone / 1000)) drive.old result.1 drive.new }
 {
     let sent = profile.gone() / 1000;
     let advance = profile.tick();
     (advance, send(drive, profile.gone(), sent, direction))
 }
 
-// Begins the plan and ticks until nothing is left.
-pub(crate) fn run_plan<D: Drive, P: Profile, W: Watch>(
+// Carries out a plan that the drive takes: begins it, and ticks until nothing is left.
+pub(crate) fn carry<D: Drive, P: Profile, W: Watch>(
     drive: &mut D,
     profile: &mut P,
     plan: Plan,
     direction: Direction,
     watch: &mut W,
-) -> Travel
-    requires { Ready D.Drive.reach (D.Drive.means drive.old) (plan_means plan) direction }
-    ensures { Travelled (D.Drive.means drive.old) (P.Profile.means profile.old) (plan_means plan) direction result (D.Drive.means drive.new) (P.Profile.means profile.new) }
+) -> Report
+    requires { Ready D.Drive.G (D.Drive.means drive.old) (plan_means plan) direction }
+    ensures { Carried (plan_means plan) (blend_end (D.Drive.means drive.old) (plan_means plan) direction) (D.Drive.means drive.old) (P.Profile.means profile.old) result (D.Drive.means drive.new) (P.Profile.means profile.new) }
 {
+    let from = drive.place();
+    let target = end_of(drive, &plan, direction);
     profile.begin(plan);
     let mut ticks: u64 = 0;
     let mut steps: u32 = 0;
@@ -59,5 +62,12 @@ pub(crate) fn run_plan<D: Drive, P: Profile, W: Watch>(
         steps += n.unsigned_abs();
         ticks = ticks.saturating_add(1);
     }
-    Travel { ticks, steps, peak }
+    Report {
+        from,
+        target,
+        to: drive.place(),
+        ticks,
+        steps,
+        peak,
+    }
 }

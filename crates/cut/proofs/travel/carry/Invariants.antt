@@ -1,5 +1,5 @@
 use Rattle.cut.proofs.Rolling.{Rolling}
-use Rattle.cut.proofs.travel.run_plan.Given as goal
+use Rattle.cut.proofs.travel.carry.Given as goal
 
 abbrev pub invariant-loop-direction : goal.invariant-loop-direction
 invariant-loop-direction g l =

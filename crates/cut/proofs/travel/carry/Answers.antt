@@ -1,18 +1,29 @@
-use Rattle.std.proofs.Common.{◌≡◌, ◌+◌, ◌-◌, ◌/◌, false, ℤ, ◌+ℤ◌, nat_abs, Ok, sym, refl, ap, ◌∙◌, arith, w32, SFits, rules}
+use Rattle.std.proofs.Common.{◌≡◌, ◌+◌, ◌-◌, ◌/◌, false, ℤ, ◌+ℤ◌, nat_abs, Ok, sym, refl, ap, ◌∙◌, arith, w32, SFits, to_z, of_z, rules}
 use Rattle.std.proofs.lemmas.Int.{to_z-of_z}
 use Rattle.std.proofs.lemmas.Bool.{eqb-true, eqb-false}
 use Rattle.drive.specs.Directions.{signed}
 use Rattle.drive.specs.Drives.{DriveMeans}
 use Rattle.profile.specs.Plans.{plan_means}
 use Rattle.profile.specs.Profiles.{ProfileMeans}
-use Rattle.cut.proofs.Rolling.{Departure, Turn, sets_out, arrives, goes_on, fits, ends}
-use Rattle.cut.proofs.travel.run_plan.Given as given
-use Rattle.cut.proofs.travel.run_plan.Goals as goal
-use Rattle.cut.proofs.travel.run_plan.Goals.{After-begin, After-tick_once-advance, After-unsigned_abs-steps}
+use Rattle.cut.specs.Cuts.{blend_end}
+use Rattle.cut.proofs.Rolling.{Departure, Turn, sets_out, arrives, goes_on, falls, fits, ends}
+use Rattle.cut.proofs.travel.carry.Given as given
+use Rattle.cut.proofs.travel.carry.Goals as goal
+use Rattle.cut.proofs.travel.carry.Goals.{After-begin, After-tick_once-advance, After-unsigned_abs-steps}
 
+-- a plan that is begun
 module _ (g : given.Over) (c : After-begin g) where
-  departure : Departure g.D.Drive.reach c.args.direction (g.D.Drive.means c.args.drive.now) (plan_means c.args.plan) (g.P.Profile.means c.args.profile.now) (g.P.Profile.means c.begin.new.self)
+  abbrev d₀ : DriveMeans
+  d₀ = g.D.Drive.means c.args.drive.now
+
+  departure : Departure g.D.Drive.G c.args.direction d₀ (plan_means c.args.plan) (g.P.Profile.means c.args.profile.now) (g.P.Profile.means c.begin.new.self)
   departure = record { ready = c.requires; placed = g.met.D.Drive.placed c.args.drive.now; begun = c.begin.ensures.begun }
+
+  from_is : to_z w32 (of_z w32 c.place-from.result) ≡ d₀.place
+  from_is = let f : SFits w32 c.place-from.result = search rules in to_z-of_z w32 _ f ∙ c.place-from.ensures
+
+  target_is : to_z w32 (of_z w32 c.end_of-target.result) ≡ blend_end d₀ (plan_means c.args.plan) c.args.direction
+  target_is = let f : SFits w32 c.end_of-target.result = search rules in to_z-of_z w32 _ f ∙ c.end_of-target.ensures
 
 pub loop-direction-init : goal.loop-direction-init
 loop-direction-init g c = sets_out (departure g c)
@@ -37,7 +48,7 @@ module _ (g : given.Over) (c : After-tick_once-advance g) where
   abbrev n : ℤ
   n = signed c.args.direction (p'.gone / 1000 - p.gone / 1000)
 
-  out : Departure g.D.Drive.reach c.args.direction (g.D.Drive.means c.args.drive.now) (plan_means c.args.plan) (g.P.Profile.means c.args.profile.now) (g.P.Profile.means c.begin.new.self)
+  out : Departure g.D.Drive.G c.args.direction (g.D.Drive.means c.args.drive.now) (plan_means c.args.plan) (g.P.Profile.means c.args.profile.now) (g.P.Profile.means c.begin.new.self)
   out = record { ready = c.requires; placed = g.met.D.Drive.placed c.args.drive.now; begun = c.begin.ensures.begun }
 
   turn : Turn c.args.direction from (g.P.Profile.means c.begin.new.self) d p p' c.loop-direction.ticks c.loop-direction.steps c.loop-direction.peak c.tick_once-advance.result.0
@@ -81,9 +92,13 @@ loop-direction-preserved g c =
 pub loop-direction-smaller : goal.loop-direction-smaller
 loop-direction-smaller g c =
     let a = (goal.at.loop-direction-smaller g c).After-tick_once-advance in
-    omega (arith, some_left g a, ap (λ x. x.left) c.tick_once-advance.ensures.ticked.after)
+    omega (arith, some_left g a, falls (out g a) (turn g a))
 
 pub returns : goal.returns
 returns g c =
-    ends (departure g (goal.at.returns g c).After-begin) (g.D.Drive.means c.loop-direction.drive) (g.P.Profile.means c.loop-direction.profile) _ c.loop-direction.invariant
-    (g.met.P.Profile.sound c.loop-direction.profile) (eqb-true _ _ (sym c.loop-direction-test.ensures))
+    let b = (goal.at.returns g c).After-begin in
+    let d = g.D.Drive.means c.loop-direction.drive in
+    let f : SFits w32 c.place.result = search rules in
+    let to : to_z w32 (of_z w32 c.place.result) ≡ d.place = to_z-of_z w32 _ f ∙ c.place.ensures in
+    ends (departure g b) d (g.P.Profile.means c.loop-direction.profile) _ c.loop-direction.invariant (g.met.P.Profile.sound c.loop-direction.profile)
+    (eqb-true _ _ (sym c.loop-direction-test.ensures)) (from_is g b) (target_is g b) to
