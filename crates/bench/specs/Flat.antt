@@ -4,6 +4,10 @@ use Rattle.profile.specs.Plans.{PlanMeans, plan_means, plan_fault}
 use Rattle.profile.specs.declared.plan.Plan.{Plan}
 use Rattle.profile.specs.declared.row.Row.{Row}
 
+-- the row of a pair
+abbrev pub row_of : List ℕ → Row
+row_of pair = record { steps = slice_index pair 0; speed = slice_index pair 1 }
+
 -- the first n rows
 unfoldable pub rows_in : ℕ → List ℕ → List Row
 rows_in zero flat = []

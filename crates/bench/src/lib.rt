@@ -1,8 +1,7 @@
-// What the benchmark in bench/ calls: whole plans, run tick by tick to their end.
+// What the benchmark runs: whole plans, tick by tick to their end.
 #![tactic(auto)]
 
-mod calls;
-mod plans;
-mod run;
-
-pub use calls::{longbed_ramp, longbed_smoothed};
+pub mod flat;
+pub mod run;
+#[cfg(test)]
+mod tests;

@@ -1,32 +1,59 @@
 // A plan, run to its end.
-ghost use Rattle.std.specs.Prelude.{◌≡◌, ◌*◌, ◌≤◌};
-ghost use Rattle.profile.specs.Plans.{plan_means, plan_steps};
+ghost use Rattle.std.specs.Prelude.{◌≡◌, ◌*◌, ◌≤◌, None};
+ghost use Rattle.profile.specs.Plans.{plan_means, plan_steps, plan_top};
 ghost use Rattle.profile.specs.Profiles.{plan_ticks};
 
 use profile::plan::Plan;
 use profile::traits::Profile;
+use std::fmt;
 
-// The ticks that a plan took, and a sum over its advances in which their order counts.
-#[derive(Clone, Copy)]
-pub(crate) struct Tally {
-    pub(crate) ticks: u64,
-    pub(crate) sum: u64,
+// What a plan came to: its ticks, the greatest advance of one, the millisteps gone, and a sum over the advances in which their order counts.
+#[derive(Clone, Copy, PartialEq, Eq, Debug)]
+pub struct Outcome {
+    pub ticks: u64,
+    pub peak: u32,
+    pub gone: u64,
+    pub sum: u64,
 }
 
-// Begins the plan and ticks until nothing is left. Then every millistep of the plan has gone, in no more
-// ticks than the plan may take.
-pub(crate) fn run_plan<P: Profile>(profile: &mut P, plan: Plan) -> Tally
+impl fmt::Display for Outcome {
+    fn fmt<W: fmt::Write>(&self, f: &mut fmt::Formatter<W>) -> fmt::Result {
+        let Outcome {
+            ticks,
+            peak,
+            gone,
+            sum,
+        } = *self;
+        write!(f, "{ticks} ticks, peak {peak}, gone {gone}, check {sum}")
+    }
+}
+
+// Begins the plan and ticks until nothing is left, with a brake after so many ticks, if any. It takes no more ticks than the plan may
+// take, and without a brake every millistep of the plan has gone.
+pub fn run_plan<P: Profile>(profile: &mut P, plan: Plan, braked: Option<u64>) -> Outcome
     ensures over { (P.Profile.means profile.new).left ≡ 0 }
-    ensures gone { (P.Profile.means profile.new).gone ≡ 1000 * plan_steps (plan_means plan) }
+    ensures gone { braked ≡ None → (P.Profile.means profile.new).gone ≡ 1000 * plan_steps (plan_means plan) }
     ensures soon { result.ticks ≤ plan_ticks (plan_means plan) (P.Profile.means profile.old).lag }
+    ensures told { result.gone ≡ (P.Profile.means profile.new).gone }
+    ensures peak { result.peak ≤ plan_top (plan_means plan) }
 {
     profile.begin(plan);
     let mut ticks: u64 = 0;
+    let mut peak = 0;
     let mut sum: u64 = 0;
     while !profile.done() {
         let advance = profile.tick();
-        sum = sum.wrapping_mul(31).wrapping_add(advance as u64);
         ticks = ticks.saturating_add(1);
+        peak = advance.max(peak);
+        sum = sum.wrapping_mul(31).wrapping_add(advance as u64);
+        if braked == Some(ticks) {
+            profile.brake();
+        }
     }
-    Tally { ticks, sum }
+    Outcome {
+        ticks,
+        peak,
+        gone: profile.gone(),
+        sum,
+    }
 }

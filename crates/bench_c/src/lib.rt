@@ -1,4 +1,6 @@
-// What C or Rust can call of the benchmark's library: the same calls under the same names, with the same promises.
+// What C and Rust can call of the benchmark. Rows stand as steps, speed, steps, speed, .. . A call writes the number of ticks and then the sum
+// over the advances to the front of `out`; where there is no such plan, or no room for both, it leaves `out` alone. C passes numbers and
+// slices only, so each call takes the rates apart and promises the same of its own `out`.
 #![tactic(auto)]
 
 ghost use Rattle.std.specs.Prelude.{◌≡◌, ◌<◌, length, Some};
@@ -6,14 +8,22 @@ ghost use Rattle.profile.specs.Plans.{plan_fault};
 ghost use Rattle.profile.specs.declared.fault.PlanFault.{PlanFault};
 ghost use Rattle.bench.specs.Flat.{plan_in};
 
+use bench::flat::run_flat;
+use profile::rates::Rates;
+use ramp::ramp::Ramp;
+use smoothing::smoothed::Smoothed;
+
+// A plan at constant acceleration.
 #[unsafe(no_mangle)]
 pub extern "C" fn longbed_ramp(start: u32, accel: u32, decel: u32, rows: &[u32], out: &mut [u64])
     ensures refused { (e : PlanFault) → plan_fault (plan_in start accel decel rows.now) ≡ Some e → out.new ≡ out.old }
     ensures short { length out.old < 2 → out.new ≡ out.old }
 {
-    bench::longbed_ramp(start, accel, decel, rows, out)
+    let mut profile = Ramp::new();
+    run_flat(&mut profile, start, Rates { accel, decel }, rows, out);
 }
 
+// The same under a smoothing over the last `window` ticks, 1 to 64: 0 counts as 1, and more as 64.
 #[unsafe(no_mangle)]
 pub extern "C" fn longbed_smoothed(
     start: u32,
@@ -26,5 +36,6 @@ pub extern "C" fn longbed_smoothed(
     ensures refused { (e : PlanFault) → plan_fault (plan_in start accel decel rows.now) ≡ Some e → out.new ≡ out.old }
     ensures short { length out.old < 2 → out.new ≡ out.old }
 {
-    bench::longbed_smoothed(start, accel, decel, window, rows, out)
+    let mut profile = Smoothed::new(Ramp::new(), window as usize);
+    run_flat(&mut profile, start, Rates { accel, decel }, rows, out);
 }

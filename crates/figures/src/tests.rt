@@ -1,6 +1,7 @@
 // The figures, run on the code.
 use crate::figures::figure_count;
 use profile::plan::Plan;
+use profile::rates::Rates;
 use profile::row::Row;
 use profile::traits::Profile;
 use ramp::braking::braking_distance;
@@ -11,8 +12,10 @@ use std::test::Fail;
 fn two_steps() -> Result<Plan, Fail> {
     Ok(Plan::new(
         100,
-        100,
-        100,
+        Rates {
+            accel: 100,
+            decel: 100,
+        },
         &[Row {
             steps: 2,
             speed: 300,

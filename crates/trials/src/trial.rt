@@ -1,35 +1,63 @@
-// One plan, from its begin until nothing is left.
+// A line of the input: a plan, and how it is run.
+use bench::flat::rows_of;
+use bench::run::{Outcome, run_plan};
+use profile::fault::PlanFault;
+use profile::list::RowList;
 use profile::plan::Plan;
-use profile::traits::Profile;
+use profile::rates::Rates;
+use ramp::ramp::Ramp;
+use smoothing::smoothed::Smoothed;
+use std::alloc::{AllocError, Global};
+use text::number::natural;
+use text::text::Words;
 
-// The ticks, the greatest advance, what has gone, and a sum over all advances in their order.
-#[derive(Clone, Copy)]
-pub struct Outcome {
-    pub ticks: u64,
-    pub peak: u32,
-    pub gone: u64,
-    pub check: u64,
+// The numbers of a line; a word that is no number counts as 0, and more than 37 words are left out.
+fn numbers(alloc: Global, text: &[u8]) -> Result<Vec<u32>, AllocError> {
+    Words::of(text)
+        .take(37)
+        .map(|word| natural(word).unwrap_or(0))
+        .collect(alloc)
 }
 
-// Brakes after `braked` ticks, or never where that is 0.
-pub fn make_trial<P: Profile>(profile: &mut P, plan: Plan, braked: u64) -> Outcome {
-    profile.begin(plan);
-    let mut ticks: u64 = 0;
-    let mut peak = 0;
-    let mut check: u64 = 0;
-    while !profile.done() {
-        let advance = profile.tick();
-        ticks = ticks.saturating_add(1);
-        peak = advance.max(peak);
-        check = check.wrapping_mul(31).wrapping_add(advance as u64);
-        if ticks == braked {
-            profile.brake();
-        }
+// The smoothing's length, if there is a smoothing, the numbers of a plan, and the tick after which it is braked, if it is.
+#[derive(Clone, Copy)]
+pub struct Trial {
+    length: Option<u32>,
+    start: u32,
+    rates: Rates,
+    braked: Option<u32>,
+    rows: RowList,
+}
+
+impl Trial {
+    // A line that ends early goes on by zeros, up to its rows; a last number that is half a row is left out.
+    pub fn of(alloc: Global, text: &[u8]) -> Result<Trial, AllocError> {
+        let numbers = numbers(alloc, text)?;
+        let number = |place: usize| numbers.get(place).copied().unwrap_or(0);
+        let above_zero = |place: usize| Some(number(place)).filter(|n| *n != 0);
+        let (pairs, _) = numbers.get(5..).unwrap_or(&[]).as_chunks::<2>();
+        Ok(Trial {
+            length: above_zero(0),
+            start: number(1),
+            rates: Rates {
+                accel: number(2),
+                decel: number(3),
+            },
+            braked: above_zero(4),
+            rows: rows_of(pairs).unwrap_or(RowList::new()),
+        })
     }
-    Outcome {
-        ticks,
-        peak,
-        gone: profile.gone(),
-        check,
+
+    pub fn run(&self) -> Result<Outcome, PlanFault> {
+        let plan = Plan::new(self.start, self.rates, self.rows.as_slice())?;
+        let braked = self.braked.map(u64::from);
+        Ok(match self.length {
+            None => run_plan(&mut Ramp::new(), plan, braked),
+            Some(length) => run_plan(
+                &mut Smoothed::new(Ramp::new(), length as usize),
+                plan,
+                braked,
+            ),
+        })
     }
 }
