@@ -1,2 +1,3 @@
+pub mod Orders
 pub mod Readiness
 pub mod Sending

@@ -1,63 +1,42 @@
 -- A delivery, as the steps that reach the drive or none.
-use Rattle.std.proofs.Common.{◌≡◌, ℕ, suc, true, false, cond, ◌||◌, eqb, ℤ, pos, negsuc, nat_abs, is_ok, Some, None, Ok, Err, Option, Result, sym, refl, ap, ◌∙◌, ⊎_elim, arith}
-use Rattle.std.proofs.lemmas.Bool.{cases_Bool, eqb-true, eqb-false, cond-true, cond-false}
+use Rattle.std.proofs.Common.{◌≡◌, ℕ, true, false, cond, eqb, ℤ, pos, nat_abs, is_ok, Some, None, Ok, Err, Option, Result, sym, ap, ◌∙◌, ⊎_elim, arith}
+use Rattle.std.specs.Result.{result_ok}
+use Rattle.std.proofs.lemmas.Bool.{cases_Bool, eqb-true, eqb-false}
+use Rattle.std.proofs.lemmas.Int.{ints}
 use Rattle.drive.specs.Deliveries.{Delivered}
-use Rattle.drive.specs.Drives.{DriveMeans, landing, answering}
+use Rattle.drive.specs.Drives.{DriveMeans, Moved, landing}
 use Rattle.drive.specs.declared.fault.DriveFault.{DriveFault}
 use Rattle.axis.specs.Ticks.{takes_all, sent_to}
 
--- the steps that came back, if any
-abbrev pub came : Result ℤ DriveFault → Option ℤ
-came (Ok n) = Some n
-came (Err e) = None
+-- the answer and the drive after it, of n steps that were brought to it
+pub record Sent {D : Type 0} (means : D → DriveMeans) (g : ℕ) (n : ℤ) (before : D) (answer : Option ℤ) (after : D) : Type 0 where
+  pub answers : answer ≡ cond (takes_all g (means before) n) (Some n) None
+  pub moves : means after ≡ sent_to g (means before) n
+  pub refused : answer ≡ None → after ≡ before
+  pub none : answer ≡ Some (pos 0) → after ≡ before
 
-none_is : (n : ℤ) → eqb (nat_abs n) 0 ≡ true → n ≡ pos 0
-none_is (pos n) e = ap pos (eqb-true n 0 e)
-none_is (negsuc n) e = absurd (omega (arith, eqb-true (suc n) 0 e))
+no_steps : (n : ℤ) → eqb (nat_abs n) 0 ≡ true → n ≡ pos 0
+no_steps n e = let z : nat_abs n ≡ 0 = eqb-true _ _ e in grind (arith, ints)
 
-some_is : (n : ℤ) → eqb (nat_abs n) 0 ≡ false → n ≡ pos 0 → ⊥
-some_is n e h = eqb-false (nat_abs n) 0 e (ap nat_abs h)
+module _ {D : Type 0} (means : D → DriveMeans) (g : ℕ) where
+  -- some steps
+  advanced :
+      (to : Result ℤ DriveFault) (n : ℤ) (before : D) (r : Result ℤ DriveFault) (after : D) → (n ≡ pos 0 → ⊥) → Moved (means before) to n r (means after)
+      → (is_ok r ≡ false → after ≡ before)
+      → (result_ok r ≡ cond (is_ok to) (Some n) None) × (result_ok r ≡ None → after ≡ before) × (result_ok r ≡ Some (pos 0) → after ≡ before)
+  advanced (Ok p) n before r after some m f = (ap result_ok m.answer, λ h. cc, λ h. let z : n ≡ pos 0 = cc in absurd (some z))
+  advanced (Err e) n before r after some m f = (ap result_ok m.answer, λ h. f (ap is_ok m.answer), λ h. f (ap is_ok m.answer))
 
-came_answering : (to : Result ℤ DriveFault) (n : ℤ) → came (answering to n) ≡ cond (is_ok to) (Some n) None
-came_answering (Ok p) n = refl
-came_answering (Err e) n = refl
-
-module _ {D : Type 0} (means : D → DriveMeans) (g : ℕ) (n : ℤ) (before : D) (r : Result ℤ DriveFault) (after : D) (v : Delivered means g n before r after) where
-  pub steps_came : came r ≡ cond (takes_all g (means before) n) (Some n) None
-  unfolding takes_all
-  steps_came =
+  pub sent : (n : ℤ) (before : D) (r : Result ℤ DriveFault) (after : D) → Delivered means g n before r after → Sent means g n before (result_ok r) after
+  unfolding takes_all sent_to
+  sent n before r after v =
       ⊎_elim
       (λ (e : eqb (nat_abs n) 0 ≡ true).
-      let w = v.none (none_is n e) in
-      ap came w.0 ∙ (ap Some (sym (none_is n e)) ∙ sym (ap (λ b. cond (b || is_ok (landing g (means before) n)) (Some n) None) e)))
+      let z : n ≡ pos 0 = no_steps n e in
+      let w = v.none z in
+      record { answers = rw e (ap result_ok w.0 ∙ ap Some (sym z)); moves = rw e (ap means w.1); refused = λ h. w.1; none = λ h. w.1 })
       (λ (e : eqb (nat_abs n) 0 ≡ false).
-      let w = v.some (some_is n e) in
-      ap came w.answer ∙ (came_answering (landing g (means before) n) n ∙ sym (ap (λ b. cond (b || is_ok (landing g (means before) n)) (Some n) None) e)))
+      let some : n ≡ pos 0 → ⊥ = λ h. eqb-false (nat_abs n) 0 e (ap nat_abs h) in
+      let w = advanced (landing g (means before) n) n before r after some (v.some some) v.refused in
+      record { answers = rw e w.0; moves = rw e (v.some some).after; refused = w.1; none = w.2 })
       (cases_Bool (eqb (nat_abs n) 0))
-
-  pub means_after : means after ≡ sent_to g (means before) n
-  unfolding sent_to
-  means_after =
-      ⊎_elim
-      (λ (e : eqb (nat_abs n) 0 ≡ true). ap means (v.none (none_is n e)).1 ∙ sym (cond-true (eqb (nat_abs n) 0) (means before) _ e))
-      (λ (e : eqb (nat_abs n) 0 ≡ false). (v.some (some_is n e)).after ∙ sym (cond-false (eqb (nat_abs n) 0) (means before) _ e))
-      (cases_Bool (eqb (nat_abs n) 0))
-
-  -- a drive that took no step was not called
-  pub stays_none : came r ≡ Some (pos 0) → after ≡ before
-  stays_none e =
-      ⊎_elim
-      (λ (z : eqb (nat_abs n) 0 ≡ true). (v.none (none_is n z)).1)
-      (λ (z : eqb (nat_abs n) 0 ≡ false). absurd (took (landing g (means before) n) z (sym (came_answering _ n) ∙ (sym (ap came (v.some (some_is n z)).answer) ∙ e))))
-      (cases_Bool (eqb (nat_abs n) 0))
-    where
-      took : (to : Result ℤ DriveFault) → eqb (nat_abs n) 0 ≡ false → cond (is_ok to) (Some n) None ≡ Some (pos 0) → ⊥
-      took (Ok p) z h = let q : n ≡ pos 0 = cc in some_is n z q
-      took (Err x) z h = let q : ◌≡◌ {A = ℕ} 0 1 = cc in omega arith
-
-  pub stays_refused : came r ≡ None → after ≡ before
-  stays_refused e = v.refused (no r e)
-    where
-      no : (x : Result ℤ DriveFault) → came x ≡ None → is_ok x ≡ false
-      no (Ok y) h = let q : ◌≡◌ {A = ℕ} 0 1 = cc in absurd (omega arith)
-      no (Err y) h = refl

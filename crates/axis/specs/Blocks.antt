@@ -8,19 +8,20 @@ use Rattle.block.specs.declared.refusal.Refusal.{Refusal}
 use Rattle.block.specs.declared.refusal.Refusal.TheVariants as refusal
 use Rattle.profile.specs.Profiles.{ProfileMeans}
 use Rattle.table.specs.Tables.{closed}
-use Rattle.axis.specs.Axes.{AxisMeans, with_table, with_state, with_kept, with_flags, with_command, with_input}
+use Rattle.axis.specs.Axes.{AxisMeans, with_memory}
 use Rattle.axis.specs.Carrying.{carried, Uses}
 use Rattle.axis.specs.Judging.{programs, judged}
+use Rattle.axis.specs.Memories.{MemoryMeans, with_table, with_state, with_kept, with_flags, with_command, with_input}
 use Rattle.axis.specs.declared.order.Order.{Order}
 use Rattle.axis.specs.declared.state.State.TheVariants.{Idle}
 
 -- a fall of the Program bit in Programming ends it
-abbrev pub closes : AxisMeans → ℕ → Bool
-closes m bits = programs m.state && falls (2 ^ bit_of command.Program) m.kept bits
+abbrev pub closes : MemoryMeans → ℕ → Bool
+closes k bits = programs k.state && falls (2 ^ bit_of command.Program) k.kept bits
 
 -- word 0 is kept, and the programming closed where its bit falls
-abbrev pub kept_by : AxisMeans → ℕ → AxisMeans
-kept_by m bits = with_kept (cond (closes m bits) (with_state (with_table m (closed m.table)) Idle) m) bits
+abbrev pub kept_by : MemoryMeans → ℕ → MemoryMeans
+kept_by k bits = with_kept (cond (closes k bits) (with_state (with_table k (closed k.table)) Idle) k) bits
 
 -- a refused command sets Command_Error; one refused for a limit sets Input_Error too
 abbrev pub is_limit : Refusal → Bool
@@ -37,8 +38,8 @@ is_limit refusal.Limit = true
 is_limit refusal.EventCode = false
 is_limit refusal.StartSpeed = false
 
-abbrev pub marked : AxisMeans → Refusal → AxisMeans
-marked m why = with_flags m (cond (is_limit why) (with_input (with_command m.flags true) true) (with_command m.flags true))
+abbrev pub marked : MemoryMeans → Refusal → MemoryMeans
+marked k why = with_flags k (cond (is_limit why) (with_input (with_command k.flags true) true) (with_command k.flags true))
 
 -- what the axis answers to an order, or to a refusal
 abbrev pub answered : Result Order Refusal → Result (Unit {0}) Refusal
@@ -48,7 +49,7 @@ answered (Err why) = Err why
 -- what becomes of the axis: the order is carried out, or the refusal noted
 abbrev pub finished : AxisMeans → Result Order Refusal → ProfileMeans → AxisMeans
 finished m (Ok o) p = carried m o p
-finished m (Err why) p = marked m why
+finished m (Err why) p = with_memory m (marked m.memory why)
 
 -- and of its profile, which a refusal does not touch
 abbrev pub UsesBy : AxisMeans → Result Order Refusal → ProfileMeans → Type 0
@@ -62,10 +63,10 @@ calls f (Err why) = false
 
 -- the axis once the word of a block is kept, and what the block then orders
 abbrev pub kept_axis : AxisMeans → Block → AxisMeans
-kept_axis m b = kept_by m b.bits
+kept_axis m b = with_memory m (kept_by m.memory b.bits)
 
 abbrev pub order_of : ℕ → AxisMeans → Block → Result Order Refusal
-order_of g m b = judged g (kept_axis m b) (rising m.kept b.bits) b
+order_of g m b = judged g (kept_axis m b) (rising m.memory.kept b.bits) b
 
 -- What a block of words does. Words that cannot be read change nothing at all; of any other block the word is kept, and it is
 -- carried out or refused. Only what its order calls is touched.

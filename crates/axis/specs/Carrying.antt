@@ -1,16 +1,17 @@
 -- What an accepted block makes of the axis. The profile's new meaning p is what its own calls allow (Uses).
-use Rattle.std.specs.Prelude.{◌≡◌, ℕ, Bool, true, false, cond, ℤ, MatchBool}
+use Rattle.std.specs.Prelude.{◌≡◌, ℕ, Bool, true, false, cond, ℤ, MatchBool, ◌==◌}
 use Rattle.drive.specs.Directions.{toward}
 use Rattle.drive.specs.Drives.{landed, setting, with_trip}
 use Rattle.drive.specs.Positions.{is_position}
 use Rattle.profile.specs.Plans.{Lawful}
 use Rattle.profile.specs.Profiles.{ProfileMeans, Begun, Braked}
 use Rattle.table.specs.Segments.{way_of}
-use Rattle.table.specs.TablePlans.{row_at}
-use Rattle.table.specs.Tables.{emptied, added, takes}
-use Rattle.axis.specs.Axes.{AxisMeans, with_drive, with_profile, with_table, with_state, with_flags, with_pace, with_command, with_input, with_invalid, with_complete, no_pace}
+use Rattle.table.specs.TablePlans.{row_at, blend_plan, row_plan}
+use Rattle.table.specs.Tables.{TableMeans, emptied, added, takes}
+use Rattle.axis.specs.Axes.{AxisMeans, with_memory}
 use Rattle.axis.specs.Judging.{runs}
-use Rattle.axis.specs.Plans.{leg_plan, blend_of, row_of_run}
+use Rattle.axis.specs.Memories.{MemoryMeans, with_table, with_state, with_flags, with_pace, with_command, with_input, with_invalid, with_complete, no_pace}
+use Rattle.axis.specs.Plans.{leg_plan}
 use Rattle.axis.specs.Stops.{stopped, eased}
 use Rattle.axis.specs.declared.order.DwellRun.{DwellRun}
 use Rattle.axis.specs.declared.order.Leg.{Leg}
@@ -21,63 +22,73 @@ use Rattle.axis.specs.declared.state.State.{State}
 use Rattle.axis.specs.declared.state.State.TheVariants.{Idle, Programming, Running, Pausing, Holding, Held}
 use Rattle.axis.specs.declared.state.Travel.{Travel}
 
--- a plan begins: Move_Complete is cleared, and the axis runs
+-- a move sets out: Move_Complete is cleared, and the axis runs
+abbrev pub set_out : MemoryMeans → Travel → MemoryMeans
+set_out k travel = with_pace (with_state (with_flags k (with_complete k.flags false)) (Running travel)) no_pace
+
+-- a plan begins
 abbrev pub began : AxisMeans → Travel → ProfileMeans → AxisMeans
-began m travel p = with_pace (with_state (with_flags (with_profile m p) (with_complete m.flags false)) (Running travel)) no_pace
+began m travel p = record { drive = m.drive; profile = p; memory = set_out m.memory travel }
 
 -- to a target, from where the drive stands
 abbrev pub go_travel : AxisMeans → Leg → Travel
 go_travel m leg = record { direction = toward m.drive.place leg.target; kind = Single leg.target }
 
 -- along row i of the table
-abbrev pub row_travel : AxisMeans → DwellRun → ℕ → Travel
-row_travel m run i = record { direction = way_of (row_at m.table i); kind = Dwell run i }
+abbrev pub row_travel : TableMeans → DwellRun → ℕ → Travel
+row_travel t run i = record { direction = way_of (row_at t i); kind = Dwell run i }
 
 -- a hold brakes; in a pause nothing is left, so it is over at once
 abbrev pub held : State → AxisMeans → ProfileMeans → AxisMeans
 held Idle m p = m
 held Programming m p = m
-held (Running travel) m p = eased (with_profile m p) travel
-held (Pausing run row ticks) m p = with_state (with_profile m p) Idle
+held (Running travel) m p = record { drive = m.drive; profile = p; memory = eased m.memory (p.left == 0) m.drive.place travel }
+held (Pausing run row ticks) m p = record { drive = m.drive; profile = p; memory = with_state m.memory Idle }
 held (Holding travel) m p = m
 held (Held target) m p = m
 
 -- a preset: the drive is set, the position is valid, and a held move is abandoned
+abbrev pub preset_memory : MemoryMeans → MemoryMeans
+preset_memory k = with_state (with_flags k (with_complete (with_invalid k.flags false) false)) Idle
+
 abbrev pub preset : AxisMeans → ℤ → AxisMeans
-preset m x = with_state (with_flags (with_drive m (landed m.drive (setting x))) (with_complete (with_invalid m.flags false) false)) Idle
+preset m x = record { drive = landed m.drive (setting x); profile = m.profile; memory = preset_memory m.memory }
 
 -- Reset Errors clears Command_Error, Input_Error and Move_Complete, and the trip where that is asked for
+abbrev pub reset_memory : MemoryMeans → MemoryMeans
+reset_memory k = with_flags k (with_complete (with_input (with_command k.flags false) false) false)
+
 abbrev pub reset : AxisMeans → Bool → AxisMeans
-reset m trip = with_flags (with_drive m (cond trip (with_trip m.drive false) m.drive)) (with_complete (with_input (with_command m.flags false) false) false)
+reset m trip = record { drive = cond trip (with_trip m.drive false) m.drive; profile = m.profile; memory = reset_memory m.memory }
 
 -- a programming begins with an empty table
-abbrev pub programmed : AxisMeans → AxisMeans
-programmed m = with_state (with_table m (emptied m.table.start)) Programming
+abbrev pub programmed : MemoryMeans → MemoryMeans
+programmed k = with_state (with_table k (emptied k.table.start)) Programming
 
 abbrev pub carried : AxisMeans → Order → ProfileMeans → AxisMeans
 carried m order.Nothing p = m
 carried m (order.Go leg) p = began m (go_travel m leg) p
-carried m order.Hold p = held m.state m p
-carried m order.Stop p = stopped m
+carried m order.Hold p = held m.memory.state m p
+carried m order.Stop p = with_memory m (stopped m.memory)
 carried m (order.Preset x) p = preset m x
 carried m (order.Reset trip) p = reset m trip
-carried m order.Program p = programmed m
-carried m (order.Segment s) p = with_table m (added m.table s)
+carried m order.Program p = with_memory m (programmed m.memory)
+carried m (order.Segment s) p = with_memory m (with_table m.memory (added m.memory.table s))
 carried m (order.Blend way rates) p = began m (record { direction = way; kind = Blend }) p
-carried m (order.Dwell run) p = began m (row_travel m run 0) p
+carried m (order.Dwell run) p = began m (row_travel m.memory.table run 0) p
 
 -- what becomes of the profile: a move begins exactly its plan, a hold brakes, and nothing else touches it
 abbrev pub Uses : AxisMeans → Order → ProfileMeans → Type 0
 Uses m order.Nothing p = p ≡ m.profile
 Uses m (order.Go leg) p = Begun m.profile (leg_plan m leg) p
-Uses m order.Hold p = MatchBool (runs m.state) (Braked m.profile p) (p ≡ m.profile)
+Uses m order.Hold p = MatchBool (runs m.memory.state) (Braked m.profile p) (p ≡ m.profile)
 Uses m order.Stop p = p ≡ m.profile
 Uses m (order.Preset x) p = p ≡ m.profile
 Uses m (order.Reset trip) p = p ≡ m.profile
 Uses m order.Program p = p ≡ m.profile
 Uses m (order.Segment s) p = p ≡ m.profile
-Uses m (order.Blend way rates) p = Begun m.profile (blend_of m rates) p
-Uses m (order.Dwell run) p = Begun m.profile (row_of_run m run 0) p
+Uses m (order.Blend way rates) p = Begun m.profile (blend_plan m.memory.table rates) p
+Uses m (order.Dwell run) p = Begun m.profile (row_plan m.memory.table run.rates 0) p
 
 -- an order that calls the profile, and one that calls the drive
 abbrev pub calls_profile : Order → Bool
@@ -113,6 +124,6 @@ Ready m order.Stop = Unit {0}
 Ready m (order.Preset x) = is_position x ≡ true
 Ready m (order.Reset trip) = Unit {0}
 Ready m order.Program = Unit {0}
-Ready m (order.Segment s) = takes m.table s ≡ true
-Ready m (order.Blend way rates) = Lawful (blend_of m rates)
-Ready m (order.Dwell run) = Lawful (row_of_run m run 0)
+Ready m (order.Segment s) = takes m.memory.table s ≡ true
+Ready m (order.Blend way rates) = Lawful (blend_plan m.memory.table rates)
+Ready m (order.Dwell run) = Lawful (row_plan m.memory.table run.rates 0)

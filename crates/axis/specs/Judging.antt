@@ -3,9 +3,8 @@ use Rattle.std.specs.Prelude.{ℕ, ◌*◌, Bool, true, false, cond, not, ◌&&�
 use Rattle.drive.specs.Directions.{toward}
 use Rattle.drive.specs.Positions.{is_position}
 use Rattle.drive.specs.declared.direction.Direction.{Direction}
-use Rattle.drive.specs.declared.direction.Direction.TheVariants.{Cw, Ccw}
 use Rattle.block.specs.Commands.{commanded}
-use Rattle.block.specs.Frames.{is_dwell_of, is_ccw_of, clears_trip_of}
+use Rattle.block.specs.Frames.{is_dwell_of, direction_of, clears_trip_of}
 use Rattle.block.specs.Pairs.{decoded}
 use Rattle.block.specs.declared.command.Command.{Command}
 use Rattle.block.specs.declared.command.Command.TheVariants as command
@@ -20,7 +19,7 @@ use Rattle.axis.specs.declared.order.DwellRun.{DwellRun}
 use Rattle.axis.specs.declared.order.Leg.{Leg}
 use Rattle.axis.specs.declared.order.Order.{Order}
 use Rattle.axis.specs.declared.order.Order.TheVariants as order
-use Rattle.axis.specs.declared.order.Rates.{Rates}
+use Rattle.profile.specs.declared.rates.Rates.{Rates}
 use Rattle.axis.specs.declared.state.State.{State}
 use Rattle.axis.specs.declared.state.State.TheVariants.{Idle, Programming, Running, Pausing, Holding, Held}
 
@@ -28,10 +27,18 @@ use Rattle.axis.specs.declared.state.State.TheVariants.{Idle, Programming, Runni
 abbrev pub asked : {X : Type 0} → Bool → Refusal → Result X Refusal → Result X Refusal
 asked q why next = cond q next (Err why)
 
+-- one question after another: the first refusal counts
+abbrev pub then_ask : {X Y : Type 0} → Result X Refusal → (X → Result Y Refusal) → Result Y Refusal
+then_ask (Ok x) next = next x
+then_ask (Err why) next = Err why
+
 -- do two words obey the pair rule? The next questions are about the number that they say.
+abbrev pub heard : Option ℤ → Result ℤ Refusal
+heard None = Err refusal.Pair
+heard (Some n) = Ok n
+
 abbrev pub said : {X : Type 0} → Option ℤ → (ℤ → Result X Refusal) → Result X Refusal
-said None next = Err refusal.Pair
-said (Some n) next = next n
+said n next = then_ask (heard n) next
 
 -- states
 abbrev pub rests : State → Bool
@@ -77,23 +84,23 @@ is_held s = elim (held_target s) [ None ↦ false | Some target ↦ true ]
 
 -- Does the state allow the command? Absolute, Relative, Preset, Program and Run need a set-up, and Run a ready table too.
 abbrev pub allowed : AxisMeans → Command → Bool
-allowed m command.Absolute = rests m.state && not m.flags.configuration
-allowed m command.Relative = rests m.state && not m.flags.configuration
-allowed m command.Hold = runs m.state
-allowed m command.Resume = is_held m.state
+allowed m command.Absolute = rests m.memory.state && not m.memory.flags.configuration
+allowed m command.Relative = rests m.memory.state && not m.memory.flags.configuration
+allowed m command.Hold = runs m.memory.state
+allowed m command.Resume = is_held m.memory.state
 allowed m command.Stop = true
-allowed m command.Preset = rests m.state && not m.flags.configuration
-allowed m command.Reset = rests m.state
-allowed m command.Program = rests m.state && not m.flags.configuration
-allowed m command.Segment = programs m.state && has_room m.table
-allowed m command.Run = rests m.state && (not m.flags.configuration && m.table.ready)
+allowed m command.Preset = rests m.memory.state && not m.memory.flags.configuration
+allowed m command.Reset = rests m.memory.state
+allowed m command.Program = rests m.memory.state && not m.memory.flags.configuration
+allowed m command.Segment = programs m.memory.state && has_room m.memory.table
+allowed m command.Run = rests m.memory.state && (not m.memory.flags.configuration && m.memory.table.ready)
 
 -- Are its values in range? Both ends are within.
 abbrev pub in_range : ℤ → ℤ → ℤ → Bool
 in_range low high n = not (int_lt n low) && not (int_lt high n)
 
 unfoldable pub speed_fits : ℕ → AxisMeans → ℤ → Bool
-speed_fits g m v = in_range (pos m.table.start) (pos (1000 * g)) v
+speed_fits g m v = in_range (pos m.memory.table.start) (pos (1000 * g)) v
 
 unfoldable pub rates_fit : Block → Bool
 rates_fit b = in_range (pos 1) (pos 5000) b.accel && in_range (pos 1) (pos 5000) b.decel
@@ -113,13 +120,13 @@ run_of b = record { rates = rates_of b; dwell = unsigned_abs b.dwell }
 
 -- Are Input_Error, E-stop and trip all off?
 unfoldable pub inhibited : AxisMeans → Bool
-inhibited m = m.flags.input || (m.levels.estop || m.drive.tripped)
+inhibited m = m.memory.flags.input || (m.memory.levels.estop || m.drive.tripped)
 
 -- Does the move go at least one step, and is its end a position? Is the limit off in its direction?
 abbrev pub on_course : AxisMeans → ℤ → Direction → Order → Result Order Refusal
 on_course m target way o =
     asked (goes_to m.drive.place target) refusal.Course
-    (asked (is_clear m.levels.cw m.levels.ccw way) refusal.Limit (Ok o))
+    (asked (is_clear m.memory.levels.limits way) refusal.Limit (Ok o))
 
 -- the questions from the seventh on, for a single move to a target
 unfoldable pub go_judged : AxisMeans → Leg → Result Order Refusal
@@ -129,25 +136,29 @@ go_judged m leg = on_course m leg.target (toward m.drive.place leg.target) (orde
 unfoldable pub pace_fits : ℕ → AxisMeans → Block → ℤ → Bool
 pace_fits g m b v = speed_fits g m v && rates_fit b
 
+-- what every move is asked: that its numbers are in range, and that nothing inhibits it
+abbrev pub may_move : AxisMeans → Bool → Result (Unit {0}) Refusal
+may_move m fits = asked fits refusal.Range (asked (not (inhibited m)) refusal.Inhibited (Ok tt))
+
+abbrev pub move_asked : AxisMeans → Bool → Result Order Refusal → Result Order Refusal
+move_asked m fits next = then_ask (may_move m fits) (λ done. next)
+
 -- for an absolute move the position has to be valid, which is asked before its course
 abbrev pub absolute_asked : ℕ → AxisMeans → Block → ℤ → ℤ → Result Order Refusal
 absolute_asked g m b target v =
-    asked (is_position target && pace_fits g m b v) refusal.Range
-    (asked (not (inhibited m)) refusal.Inhibited
-    (asked (not m.flags.invalid) refusal.PositionInvalid
+    asked (is_position target) refusal.Range
+    (move_asked m (pace_fits g m b v)
+    (asked (not m.memory.flags.invalid) refusal.PositionInvalid
     (go_judged m (leg_of b target v))))
 
 abbrev pub relative_asked : ℕ → AxisMeans → Block → ℤ → ℤ → Result Order Refusal
 relative_asked g m b offset v =
-    asked (is_position offset && pace_fits g m b v) refusal.Range
-    (asked (not (inhibited m)) refusal.Inhibited
+    asked (is_position offset) refusal.Range
+    (move_asked m (pace_fits g m b v)
     (go_judged m (leg_of b (m.drive.place +ℤ offset) v)))
 
 abbrev pub resume_asked : ℕ → AxisMeans → Block → ℤ → ℤ → Result Order Refusal
-resume_asked g m b target v =
-    asked (pace_fits g m b v) refusal.Range
-    (asked (not (inhibited m)) refusal.Inhibited
-    (go_judged m (leg_of b target v)))
+resume_asked g m b target v = move_asked m (pace_fits g m b v) (go_judged m (leg_of b target v))
 
 abbrev pub absolute_judged : ℕ → AxisMeans → Block → Result Order Refusal
 absolute_judged g m b = said (decoded b.place) (λ target. said (decoded b.speed) (λ v. absolute_asked g m b target v))
@@ -158,24 +169,18 @@ relative_judged g m b = said (decoded b.place) (λ offset. said (decoded b.speed
 abbrev pub resume_judged : ℕ → AxisMeans → Block → ℤ → Result Order Refusal
 resume_judged g m b target = said (decoded b.speed) (λ v. resume_asked g m b target v)
 
--- a blend goes clockwise unless word 1 says otherwise
-abbrev pub blend_way : Block → Direction
-blend_way b = cond (is_ccw_of b) Ccw Cw
-
 abbrev pub blend_judged : AxisMeans → Block → Result Order Refusal
 blend_judged m b =
-    asked (rates_fit b) refusal.Range
-    (asked (not (inhibited m)) refusal.Inhibited
-    (on_course m (blend_end m (blend_way b)) (blend_way b) (order.Blend (blend_way b) (rates_of b))))
+    move_asked m (rates_fit b)
+    (on_course m (blend_end m (direction_of b)) (direction_of b) (order.Blend (direction_of b) (rates_of b)))
 
 -- each row of a dwell move is asked
 abbrev pub dwell_judged : AxisMeans → Block → Result Order Refusal
 dwell_judged m b =
-    asked (rates_fit b && dwell_fits b) refusal.Range
-    (asked (not (inhibited m)) refusal.Inhibited
-    (asked (stays_on m.drive.place m.table.rows) refusal.Course
-    (asked (are_clear m.levels.cw m.levels.ccw m.table.rows) refusal.Limit
-    (Ok (order.Dwell (run_of b))))))
+    move_asked m (rates_fit b && dwell_fits b)
+    (asked (stays_on m.drive.place m.memory.table.rows) refusal.Course
+    (asked (are_clear m.memory.levels.limits m.memory.table.rows) refusal.Limit
+    (Ok (order.Dwell (run_of b)))))
 
 abbrev pub preset_judged : Block → Result Order Refusal
 preset_judged b = said (decoded b.place) (λ p. asked (is_position p) refusal.Range (Ok (order.Preset p)))
@@ -193,7 +198,7 @@ abbrev pub values_judged : ℕ → AxisMeans → Block → Command → Result Or
 values_judged g m b command.Absolute = absolute_judged g m b
 values_judged g m b command.Relative = relative_judged g m b
 values_judged g m b command.Hold = Ok order.Hold
-values_judged g m b command.Resume = on_held (held_target m.state) (resume_judged g m b)
+values_judged g m b command.Resume = on_held (held_target m.memory.state) (resume_judged g m b)
 values_judged g m b command.Stop = Ok order.Stop
 values_judged g m b command.Preset = preset_judged b
 values_judged g m b command.Reset = Ok (order.Reset (clears_trip_of b))

@@ -3,6 +3,7 @@ pub mod Blocks
 pub mod Carrying
 pub mod EventCalls
 pub mod Judging
+pub mod Memories
 pub mod Plans
 pub mod Setups
 pub mod Stops

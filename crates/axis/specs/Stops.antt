@@ -1,8 +1,8 @@
 -- How the axis comes to rest.
-use Rattle.std.specs.Prelude.{true, cond, ◌==◌}
+use Rattle.std.specs.Prelude.{◌+◌, Bool, true, cond, length, ℤ, ◌==◌, nat_lt}
 use Rattle.drive.specs.Positions.{distance}
 use Rattle.table.specs.Tables.{TableMeans, emptied}
-use Rattle.axis.specs.Axes.{AxisMeans, with_state, with_flags, with_table, with_invalid, with_complete}
+use Rattle.axis.specs.Memories.{MemoryMeans, with_state, with_flags, with_table, with_input, with_invalid, with_complete}
 use Rattle.axis.specs.declared.state.Kind.{Kind}
 use Rattle.axis.specs.declared.state.Kind.TheVariants.{Single, Blend, Dwell}
 use Rattle.axis.specs.declared.state.State.{State}
@@ -19,19 +19,44 @@ table_stopped (Holding travel) t = t
 table_stopped (Held target) t = t
 
 -- a full stop: idle, with the position invalid
-abbrev pub stopped : AxisMeans → AxisMeans
-stopped m = with_table (with_state (with_flags m (with_invalid m.flags true)) Idle) (table_stopped m.state m.table)
+abbrev pub stopped : MemoryMeans → MemoryMeans
+stopped k = with_table (with_state (with_flags k (with_invalid k.flags true)) Idle) (table_stopped k.state k.table)
 
 -- the end of a move: idle, with Move_Complete
-abbrev pub completed : AxisMeans → AxisMeans
-completed m = with_state (with_flags m (with_complete m.flags true)) Idle
+abbrev pub completed : MemoryMeans → MemoryMeans
+completed k = with_state (with_flags k (with_complete k.flags true)) Idle
 
--- the end of holding: a single move with steps unsent is held, one without is complete, and an assembled move is over
-abbrev pub rested : AxisMeans → Kind → AxisMeans
-rested m (Single target) = cond (distance m.drive.place target == 0) (completed m) (with_state m (Held target))
-rested m Blend = with_state m Idle
-rested m (Dwell run row) = with_state m Idle
+-- the end of holding, with the drive at a place: a single move with steps unsent is held, one without is complete, and an
+-- assembled move is over
+abbrev pub rested : MemoryMeans → ℤ → Kind → MemoryMeans
+rested k place (Single target) = cond (distance place target == 0) (completed k) (with_state k (Held target))
+rested k place Blend = with_state k Idle
+rested k place (Dwell run row) = with_state k Idle
 
 -- holding goes on, or ends as soon as nothing is left
-abbrev pub eased : AxisMeans → Travel → AxisMeans
-eased m travel = cond (m.profile.left == 0) (rested m travel.kind) (with_state m (Holding travel))
+abbrev pub eased : MemoryMeans → Bool → ℤ → Travel → MemoryMeans
+eased k over place travel = cond over (rested k place travel.kind) (with_state k (Holding travel))
+
+-- the end of a plan: a dwell move with another row pauses, any other move is complete
+abbrev pub ended : MemoryMeans → Kind → MemoryMeans
+ended k (Single target) = completed k
+ended k Blend = completed k
+ended k (Dwell run row) =
+    cond (nat_lt (row + 1) (length k.table.rows)) (with_state k (Pausing run (row + 1) run.dwell)) (completed k)
+
+-- running goes on until nothing is left
+abbrev pub arrived : MemoryMeans → Bool → Travel → MemoryMeans
+arrived k over travel = cond over (ended k travel.kind) (with_state k (Running travel))
+
+-- what moves goes on, with the drive at a place
+abbrev pub gone_on : State → MemoryMeans → Bool → ℤ → MemoryMeans
+gone_on Idle k over place = k
+gone_on Programming k over place = k
+gone_on (Running travel) k over place = arrived k over travel
+gone_on (Pausing run row ticks) k over place = k
+gone_on (Holding travel) k over place = eased k over place travel
+gone_on (Held target) k over place = k
+
+-- a stop by an input sets Input_Error
+abbrev pub halted_by_input : MemoryMeans → MemoryMeans
+halted_by_input k = stopped (with_flags k (with_input k.flags true))

@@ -1,20 +1,18 @@
 -- What a tick does. Gone, in millisteps, is the profile's before its tick, and p what the profile means after it.
-use Rattle.std.specs.Prelude.{◌≡◌, ℕ, ◌+◌, ◌-◌, ◌/◌, Bool, true, false, cond, not, ◌||◌, length, ℤ, pos, is_some, is_ok, MatchBool, ◌==◌, nat_lt, unsigned_abs}
+use Rattle.std.specs.Prelude.{◌≡◌, ℕ, ◌-◌, ◌/◌, Bool, true, false, cond, not, ◌||◌, ℤ, pos, is_some, is_ok, MatchBool, ◌==◌, unsigned_abs}
 use Rattle.drive.specs.Directions.{signed}
 use Rattle.drive.specs.Drives.{DriveMeans, landing, landed}
 use Rattle.drive.specs.declared.direction.Direction.{Direction}
 use Rattle.profile.specs.Plans.{PlanMeans, plan_fault}
 use Rattle.profile.specs.Profiles.{ProfileMeans, Begun, Ticked}
-use Rattle.axis.specs.Axes.{AxisMeans, with_drive, with_profile, with_state, with_pace}
+use Rattle.table.specs.TablePlans.{row_plan}
+use Rattle.axis.specs.Axes.{AxisMeans, with_memory}
 use Rattle.axis.specs.Carrying.{began, row_travel}
-use Rattle.axis.specs.Plans.{row_of_run}
-use Rattle.axis.specs.Stops.{stopped, completed, eased}
+use Rattle.axis.specs.Memories.{with_state, with_pace}
+use Rattle.axis.specs.Stops.{stopped, gone_on}
 use Rattle.axis.specs.declared.order.DwellRun.{DwellRun}
-use Rattle.axis.specs.declared.state.Kind.{Kind}
-use Rattle.axis.specs.declared.state.Kind.TheVariants.{Single, Blend, Dwell}
 use Rattle.axis.specs.declared.state.State.{State}
 use Rattle.axis.specs.declared.state.State.TheVariants.{Idle, Programming, Running, Pausing, Holding, Held}
-use Rattle.axis.specs.declared.state.Travel.{Travel}
 
 -- the whole steps of gone that were not sent before, with the direction's sign
 abbrev pub due : Direction → ℕ → ProfileMeans → ℤ
@@ -34,32 +32,19 @@ steps_sent g m way gone p = cond (takes_all g m.drive (due way gone p)) (due way
 -- the axis once the profile has ticked and the steps due went to the drive
 abbrev pub moved : ℕ → AxisMeans → Direction → ℕ → ProfileMeans → AxisMeans
 moved g m way gone p =
-    with_pace (with_drive (with_profile m p) (sent_to g m.drive (due way gone p)))
-    (record { last = p.gone - gone; before = m.pace.last })
+    record {
+      drive = sent_to g m.drive (due way gone p);
+      profile = p;
+      memory = with_pace m.memory (record { last = p.gone - gone; before = m.memory.pace.last });
+    }
 
--- the end of a plan: a dwell move with another row pauses, any other move is complete
-abbrev pub ended : AxisMeans → Kind → AxisMeans
-ended m (Single target) = completed m
-ended m Blend = completed m
-ended m (Dwell run row) =
-    cond (nat_lt (row + 1) (length m.table.rows)) (with_state m (Pausing run (row + 1) run.dwell)) (completed m)
-
--- running goes on until nothing is left
-abbrev pub arrived : AxisMeans → Travel → AxisMeans
-arrived m travel = cond (m.profile.left == 0) (ended m travel.kind) (with_state m (Running travel))
-
--- a tick of a running and of a holding move; a drive that refuses makes a full stop
-abbrev pub ran_on : ℕ → AxisMeans → Travel → ℕ → ProfileMeans → AxisMeans
-ran_on g m travel gone p =
-    cond (takes_all g m.drive (due travel.direction gone p))
-    (arrived (moved g m travel.direction gone p) travel)
-    (stopped (moved g m travel.direction gone p))
-
-abbrev pub held_on : ℕ → AxisMeans → Travel → ℕ → ProfileMeans → AxisMeans
-held_on g m travel gone p =
-    cond (takes_all g m.drive (due travel.direction gone p))
-    (eased (moved g m travel.direction gone p) travel)
-    (stopped (moved g m travel.direction gone p))
+-- a tick of what moves, in a state: it goes on, and a drive that refuses makes a full stop
+abbrev pub moved_on : ℕ → State → AxisMeans → Direction → ℕ → ProfileMeans → AxisMeans
+moved_on g s m way gone p =
+    with_memory (moved g m way gone p)
+    (cond (takes_all g m.drive (due way gone p))
+    (gone_on s (moved g m way gone p).memory (p.left == 0) (moved g m way gone p).drive.place)
+    (stopped (moved g m way gone p).memory))
 
 -- numbers that make a plan
 abbrev pub is_plan : PlanMeans → Bool
@@ -67,10 +52,14 @@ is_plan plan = not (is_some (plan_fault plan))
 
 -- the tick that begins the next row of a dwell move ticks it at once; where there is no such row, a full stop
 abbrev pub row_steps : ℕ → AxisMeans → DwellRun → ℕ → ProfileMeans → ℤ
-row_steps g m run row p = cond (is_plan (row_of_run m run row)) (steps_sent g m (row_travel m run row).direction 0 p) (pos 0)
+row_steps g m run row p =
+    cond (is_plan (row_plan m.memory.table run.rates row)) (steps_sent g m (row_travel m.memory.table run row).direction 0 p) (pos 0)
 
 abbrev pub row_begun : ℕ → AxisMeans → DwellRun → ℕ → ProfileMeans → AxisMeans
-row_begun g m run row p = cond (is_plan (row_of_run m run row)) (ran_on g (began m (row_travel m run row) p) (row_travel m run row) 0 p) (stopped m)
+row_begun g m run row p =
+    cond (is_plan (row_plan m.memory.table run.rates row))
+    (moved_on g (Running (row_travel m.memory.table run row)) (began m (row_travel m.memory.table run row) p) (row_travel m.memory.table run row).direction 0 p)
+    (with_memory m (stopped m.memory))
 
 -- the states whose tick is in motion: running, holding, and a pause that is over
 abbrev pub in_motion : State → Bool
@@ -94,9 +83,9 @@ tick_steps g (Held target) m p = pos 0
 abbrev pub tick_after : ℕ → State → AxisMeans → ProfileMeans → AxisMeans
 tick_after g Idle m p = m
 tick_after g Programming m p = m
-tick_after g (Running travel) m p = ran_on g m travel m.profile.gone p
-tick_after g (Pausing run row ticks) m p = cond (ticks == 0) (row_begun g m run row p) (with_state m (Pausing run row (ticks - 1)))
-tick_after g (Holding travel) m p = held_on g m travel m.profile.gone p
+tick_after g (Running travel) m p = moved_on g (Running travel) m travel.direction m.profile.gone p
+tick_after g (Pausing run row ticks) m p = cond (ticks == 0) (row_begun g m run row p) (with_memory m (with_state m.memory (Pausing run row (ticks - 1))))
+tick_after g (Holding travel) m p = moved_on g (Holding travel) m travel.direction m.profile.gone p
 tick_after g (Held target) m p = m
 
 -- the profile ticks once
@@ -117,7 +106,7 @@ TickUses Programming m p = p ≡ m.profile
 TickUses (Running travel) m p = OneTick m.profile p
 TickUses (Pausing run row ticks) m p =
     MatchBool (ticks == 0)
-    (MatchBool (is_plan (row_of_run m run row)) (FirstTick m.profile (row_of_run m run row) p) (p ≡ m.profile))
+    (MatchBool (is_plan (row_plan m.memory.table run.rates row)) (FirstTick m.profile (row_plan m.memory.table run.rates row) p) (p ≡ m.profile))
     (p ≡ m.profile)
 TickUses (Holding travel) m p = OneTick m.profile p
 TickUses (Held target) m p = p ≡ m.profile

@@ -1,26 +1,19 @@
-// The axis: a drive, a profile, the table of segments, and what the axis keeps of its own.
-use crate::flags::{Flags, Levels, Pace};
-use crate::state::State;
-use table::table::Table;
+// The axis: a drive, a profile, and what the axis keeps of its own.
+use crate::memory::Memory;
 
 mod answer;
 mod carry;
 mod event;
 mod judge;
 mod power;
-mod rest;
 mod setup;
 mod tick;
 
+// A call of the whole axis may touch its drive and its profile, so its contract says which of them it leaves; what touches neither is a
+// call of the memory.
 #[derive(Drop)]
 pub struct Axis<D, P> {
     drive: D,
     profile: P,
-    table: Table,
-    state: State,
-    // Word 0 of the last block that was kept.
-    kept: u16,
-    flags: Flags,
-    levels: Levels,
-    pace: Pace,
+    memory: Memory,
 }

@@ -1,5 +1,7 @@
 // What the axis tells of itself, the levels of its inputs, and its last two advances.
-#[derive(Clone, Copy)]
+use table::limits::Limits;
+
+#[derive(Clone, Copy, PartialEq, Eq, Debug, Default)]
 pub struct Flags {
     // Configuration_Error
     pub configuration: bool,
@@ -14,15 +16,14 @@ pub struct Flags {
 }
 
 // The limit switches and the E-stop: true while on.
-#[derive(Clone, Copy)]
+#[derive(Clone, Copy, PartialEq, Eq, Debug, Default)]
 pub struct Levels {
-    pub cw: bool,
-    pub ccw: bool,
+    pub limits: Limits,
     pub estop: bool,
 }
 
 // The last advance of the plan in millisteps, and the one before; 0 before the first.
-#[derive(Clone, Copy)]
+#[derive(Clone, Copy, PartialEq, Eq, Debug, Default)]
 pub struct Pace {
     pub last: u32,
     pub before: u32,

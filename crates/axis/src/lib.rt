@@ -3,5 +3,6 @@
 
 pub mod axis;
 pub mod flags;
+pub mod memory;
 pub mod order;
 pub mod state;

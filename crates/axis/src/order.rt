@@ -1,16 +1,10 @@
 // What a block orders, once it is judged: the numbers that carry it out.
 use drive::direction::Direction;
+use profile::rates::Rates;
 use table::segment::Segment;
 
-// The acceleration and the deceleration of a move.
-#[derive(Clone, Copy)]
-pub struct Rates {
-    pub accel: u32,
-    pub decel: u32,
-}
-
 // A move to a target at a speed.
-#[derive(Clone, Copy)]
+#[derive(Clone, Copy, PartialEq, Eq, Debug)]
 pub struct Leg {
     pub target: i32,
     pub speed: u32,
@@ -18,13 +12,13 @@ pub struct Leg {
 }
 
 // A run of the table row by row, with a dwell in ticks between rows.
-#[derive(Clone, Copy)]
+#[derive(Clone, Copy, PartialEq, Eq, Debug)]
 pub struct DwellRun {
     pub rates: Rates,
     pub dwell: u32,
 }
 
-#[derive(Clone, Copy)]
+#[derive(Clone, Copy, PartialEq, Eq, Debug)]
 pub enum Order {
     // No bit rises.
     Nothing,

@@ -2,7 +2,7 @@
 use crate::order::DwellRun;
 use drive::direction::Direction;
 
-#[derive(Clone, Copy)]
+#[derive(Clone, Copy, PartialEq, Eq, Debug)]
 pub enum State {
     Idle,
     Programming,
@@ -17,18 +17,18 @@ pub enum State {
 }
 
 // The plan in motion: its direction, and the move that it belongs to.
-#[derive(Clone, Copy)]
+#[derive(Clone, Copy, PartialEq, Eq, Debug)]
 pub struct Travel {
     pub direction: Direction,
     pub kind: Kind,
 }
 
-#[derive(Clone, Copy)]
+#[derive(Clone, Copy, PartialEq, Eq, Debug)]
 pub enum Kind {
     // A move of one plan to this target.
     Single(i32),
     // All rows of the table as one plan.
     Blend,
-    // This row of the table, as a plan of its own.
+    // This row of the table, as a plan of its own. (A struct of the two would be taken apart wherever it is read.)
     Dwell(DwellRun, usize),
 }

@@ -1,18 +1,19 @@
 -- Events, by their codes, 1 to 7.
-use Rattle.std.specs.Prelude.{ℕ, cond, ℤ, pos, negsuc, Ok, Err, Result, ◌==◌}
+use Rattle.std.specs.Prelude.{ℕ, true, false, cond, ℤ, pos, negsuc, Ok, Err, Result, ◌==◌}
 use Rattle.block.specs.declared.event.Event.{Event}
 use Rattle.block.specs.declared.event.Event.TheVariants as event
 use Rattle.block.specs.declared.refusal.Refusal.{Refusal}
 use Rattle.block.specs.declared.refusal.Refusal.TheVariants as refusal
+use Rattle.drive.specs.declared.direction.Direction.TheVariants.{Cw, Ccw}
 
 -- the code of an event
 abbrev pub code_of : Event → ℕ
-code_of event.CwLimitOn = 1
-code_of event.CwLimitOff = 2
-code_of event.CcwLimitOn = 3
-code_of event.CcwLimitOff = 4
-code_of event.EStopOn = 5
-code_of event.EStopOff = 6
+code_of (event.Limit Cw true) = 1
+code_of (event.Limit Cw false) = 2
+code_of (event.Limit Ccw true) = 3
+code_of (event.Limit Ccw false) = 4
+code_of (event.EStop true) = 5
+code_of (event.EStop false) = 6
 code_of event.Trip = 7
 
 abbrev pub or_else : ℕ → Event → Result Event Refusal → Result Event Refusal
@@ -22,11 +23,11 @@ or_else n e other = cond (n == code_of e) (Ok e) other
 abbrev pub event_of : ℤ → Result Event Refusal
 event_of (negsuc n) = Err refusal.EventCode
 event_of (pos n) =
-    or_else n event.CwLimitOn
-    (or_else n event.CwLimitOff
-    (or_else n event.CcwLimitOn
-    (or_else n event.CcwLimitOff
-    (or_else n event.EStopOn
-    (or_else n event.EStopOff
+    or_else n (event.Limit Cw true)
+    (or_else n (event.Limit Cw false)
+    (or_else n (event.Limit Ccw true)
+    (or_else n (event.Limit Ccw false)
+    (or_else n (event.EStop true)
+    (or_else n (event.EStop false)
     (or_else n event.Trip
     (Err refusal.EventCode)))))))

@@ -7,6 +7,8 @@ use Rattle.block.specs.declared.frame.Block.{Block}
 use Rattle.block.specs.declared.pair.Pair.{Pair}
 use Rattle.block.specs.declared.refusal.Refusal.{Refusal}
 use Rattle.block.specs.declared.refusal.Refusal.TheVariants as refusal
+use Rattle.drive.specs.declared.direction.Direction.{Direction}
+use Rattle.drive.specs.declared.direction.Direction.TheVariants.{Cw, Ccw}
 
 -- word k of a list of words, and its sixteen bits
 abbrev pub word_at : List ℤ → ℕ → ℤ
@@ -40,6 +42,10 @@ is_dwell_of b = is_set 0 b.options
 
 abbrev pub is_ccw_of : Block → Bool
 is_ccw_of b = is_set 1 b.options
+
+-- a blend goes clockwise unless word 1 says otherwise
+abbrev pub direction_of : Block → Direction
+direction_of b = cond (is_ccw_of b) Ccw Cw
 
 abbrev pub clears_trip_of : Block → Bool
 clears_trip_of b = is_set 10 b.options

@@ -7,7 +7,7 @@ use crate::refusal::Refusal;
 // The bit of word 0 that stays set through a programming.
 pub const PROGRAM: u16 = 0x0800;
 
-#[derive(Clone, Copy)]
+#[derive(Clone, Copy, PartialEq, Eq, Debug)]
 pub enum Command {
     Absolute,
     Relative,
@@ -21,7 +21,8 @@ pub enum Command {
     Run,
 }
 
-// The command whose bit alone rises; none where no bit does.
+// The command whose bit alone rises; none where no bit does. A word may command nothing, so this is no `TryFrom`; and with the
+// bits as discriminants the same match would stand here.
 pub fn commanded(rising: u16) -> Result<Option<Command>, Refusal>
     ensures { result ≡ commanded_of rising }
 {

@@ -1,14 +1,15 @@
 // A block: ten words, each in its place.
 ghost use Rattle.std.specs.Prelude.{◌≡◌};
-ghost use Rattle.block.specs.Frames.{block_of, is_dwell_of, is_ccw_of, clears_trip_of};
+ghost use Rattle.block.specs.Frames.{block_of, is_dwell_of, direction_of, clears_trip_of};
 
 use crate::pair::Pair;
 use crate::refusal::Refusal;
+use drive::direction::Direction;
 
 // The bits of word 0 that have no meaning: 5 to 8, 14 and 15.
 const RESERVED: u16 = 0xc1e0;
 
-#[derive(Clone, Copy)]
+#[derive(Clone, Copy, PartialEq, Eq, Debug)]
 pub struct Block {
     // Word 0: the command bits.
     pub bits: u16,
@@ -29,7 +30,7 @@ impl Block {
     pub fn read(words: &[i16]) -> Result<Block, Refusal>
         ensures { result ≡ block_of words.now }
     {
-        let [
+        let &[
             command,
             options,
             place,
@@ -52,16 +53,16 @@ impl Block {
             bits,
             options: options.cast_unsigned(),
             place: Pair {
-                first: *place,
-                second: *places,
+                first: place,
+                second: places,
             },
             speed: Pair {
-                first: *speed,
-                second: *speeds,
+                first: speed,
+                second: speeds,
             },
-            accel: *accel,
-            decel: *decel,
-            dwell: *dwell,
+            accel,
+            decel,
+            dwell,
         })
     }
 
@@ -72,11 +73,15 @@ impl Block {
         self.options & 0x0001 != 0
     }
 
-    // Whether a blend goes counterclockwise.
-    pub fn is_ccw(self) -> bool
-        ensures { result ≡ is_ccw_of self }
+    // Where a blend goes: clockwise unless its bit is set.
+    pub fn direction(self) -> Direction
+        ensures { result ≡ direction_of self }
     {
-        self.options & 0x0002 != 0
+        if self.options & 0x0002 != 0 {
+            Direction::Ccw
+        } else {
+            Direction::Cw
+        }
     }
 
     // Whether Reset Errors clears the trip too.

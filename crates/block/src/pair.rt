@@ -22,34 +22,16 @@ fn joined(first: i16, second: i16) -> i32
     1000 * i32::from(first) + i32::from(second)
 }
 
-// The number of two words, if they are a pair.
-fn number_of(pair: Pair) -> Option<i32>
-    ensures { result ≡ decoded pair }
-{
-    if opposite(pair.first, pair.second) || pair.second.unsigned_abs() >= 1000 {
-        return None;
-    }
-    Some(joined(pair.first, pair.second))
-}
-
-// The pair of a number, if it has one.
-fn pair_of(n: i32) -> Option<Pair>
-    ensures { result ≡ encoded n }
-{
-    let first = i16::try_from(n / 1000).ok()?;
-    Some(Pair {
-        first,
-        second: (n % 1000) as i16,
-    })
-}
-
 impl Pair {
     // The number that the words say, if they are a pair; it has no other pair.
     pub fn decode(self) -> Option<i32>
         ensures number { result ≡ decoded self }
         ensures back { (n : ℤ) → result ≡ Some n → encoded n ≡ Some self }
     {
-        number_of(self)
+        if opposite(self.first, self.second) || self.second.unsigned_abs() >= 1000 {
+            return None;
+        }
+        Some(joined(self.first, self.second))
     }
 
     // The pair that says a number, if one can.
@@ -57,6 +39,9 @@ impl Pair {
         ensures pair { result ≡ encoded n }
         ensures back { (p : Pair) → result ≡ Some p → decoded p ≡ Some n }
     {
-        pair_of(n)
+        Some(Pair {
+            first: i16::try_from(n / 1000).ok()?,
+            second: i16::try_from(n % 1000).ok()?,
+        })
     }
 }

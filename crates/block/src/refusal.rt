@@ -2,62 +2,49 @@
 ghost use Rattle.std.specs.Prelude.{◌≡◌};
 ghost use Rattle.block.specs.Refusals.{number_of, answer_of};
 
+// Each with the number that is answered.
 #[derive(Clone, Copy, PartialEq, Eq, Debug)]
 pub enum Refusal {
     // A block has not exactly ten words.
-    WordCount,
+    WordCount = 1,
     // A bit of word 0 that has no meaning is set.
-    ReservedBits,
+    ReservedBits = 2,
     // More than one command bit rises.
-    SeveralCommands,
+    SeveralCommands = 3,
     // The state does not allow the call.
-    State,
+    State = 4,
     // Two words that the command uses are no pair.
-    Pair,
+    Pair = 5,
     // A value is out of range.
-    Range,
+    Range = 6,
     // Input_Error, the E-stop or a trip is on.
-    Inhibited,
+    Inhibited = 7,
     // An absolute move while the position is invalid.
-    PositionInvalid,
+    PositionInvalid = 8,
     // The move goes no step, or leaves the positions.
-    Course,
+    Course = 9,
     // The limit in a direction that the move takes is on.
-    Limit,
+    Limit = 10,
     // There is no event with this code.
-    EventCode,
+    EventCode = 11,
     // The starting speed of a set-up is out of range.
-    StartSpeed,
+    StartSpeed = 13,
 }
 
-impl Refusal {
-    // The number that is answered.
-    pub fn number(self) -> u8
-        ensures { result ≡ number_of self }
-    {
-        match self {
-            Refusal::WordCount => 1,
-            Refusal::ReservedBits => 2,
-            Refusal::SeveralCommands => 3,
-            Refusal::State => 4,
-            Refusal::Pair => 5,
-            Refusal::Range => 6,
-            Refusal::Inhibited => 7,
-            Refusal::PositionInvalid => 8,
-            Refusal::Course => 9,
-            Refusal::Limit => 10,
-            Refusal::EventCode => 11,
-            Refusal::StartSpeed => 13,
-        }
+impl From<Refusal> for u8 {
+    ghost from_gives = { λ refusal number. number ≡ number_of refusal };
+
+    fn from(refusal: Refusal) -> u8 {
+        refusal as u8
     }
 }
 
-// The number that answers a call: 0 where it is accepted.
+// The number that answers a call: 0 where it is accepted. Numbers are what goes over the wire.
 pub fn answer_number(answer: Result<(), Refusal>) -> u8
     ensures { result ≡ answer_of answer }
 {
     match answer {
         Ok(()) => 0,
-        Err(refusal) => refusal.number(),
+        Err(refusal) => u8::from(refusal),
     }
 }

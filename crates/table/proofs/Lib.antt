@@ -1,2 +1,1 @@
 pub mod SegmentLaws
-pub mod Turns

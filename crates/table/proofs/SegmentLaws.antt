@@ -1,17 +1,15 @@
--- What a loop over segments takes from turn to turn, and what holds of the rows of a table.
-use Rattle.std.proofs.Common.{◌≡◌, ℕ, ◌+◌, ◌*◌, ◌<◌, ◌≤◌, Bool, true, false, cond, not, ◌&&◌, eqb, List, [], ◌∷◌, ◌++◌, map, length, get_or, take, drop, ℤ, ◌+ℤ◌, nat_abs, Some, None, sym, refl, ap, ◌∙◌, arith}
-use Rattle.std.proofs.lemmas.List.{length-take-le}
+-- What holds of the rows of a table, and of their course.
+use Rattle.std.proofs.Common.{◌≡◌, ℕ, ◌+◌, ◌*◌, ◌<◌, ◌≤◌, Bool, true, false, cond, not, ◌&&◌, eqb, List, [], ◌∷◌, ◌++◌, map, length, get_or, drop, ℤ, ◌+ℤ◌, nat_abs, Bor, Iter, Some, None, Option, is_some, MatchOption, sym, refl, ap, ◌∙◌, arith}
+use Rattle.std.proofs.lemmas.Fn.{fronts}
+use Rattle.std.proofs.lemmas.List.{at_drop_more, nil_from_length}
 use Rattle.std.proofs.lemmas.Bool.{and_parts, and_from, leb-true, le-leb}
 use Rattle.drive.specs.Positions.{is_position}
 use Rattle.profile.specs.Rows.{steps_of}
-use Rattle.table.proofs.Turns.{drop_next, drop_past}
-use Rattle.table.specs.Courses.{goes_to, leg_end, stays_on, is_clear, are_clear}
-use Rattle.table.specs.Segments.{is_segment, are_segments, is_enough, way_of, row_of}
+use Rattle.std.specs.Iterator.{Yields, YieldsThen}
+use Rattle.std.specs.List.{FoldsTo}
+use Rattle.table.specs.Courses.{goes_to, leg_end, stays_on}
+use Rattle.table.specs.Segments.{is_segment, are_segments, is_enough, row_of}
 use Rattle.table.specs.declared.segment.Segment.{Segment}
-
--- the rows of a table of sixteen places
-pub rows_length : (n : ℕ) (segments : List Segment) → length segments ≡ 16 → n ≤ 16 → length (take n segments) ≡ n
-rows_length n segments e h = length-take-le n segments (omega (arith, e))
 
 -- no rows are segments of any table
 pub no_segments : (S : ℕ) → are_segments S [] ≡ true
@@ -44,45 +42,41 @@ pub stays_next :
     (at : ℤ) (rows : List Segment) (i : ℕ) (d : Segment) → i < length rows
     → stays_on at (drop i rows) ≡ (goes_to at (at +ℤ (get_or rows i d).distance) && stays_on (at +ℤ (get_or rows i d).distance) (drop (i + 1) rows))
 unfolding stays_on
-stays_next at rows i d h = ap (stays_on at) (drop_next rows i d h)
+stays_next at rows i d h = at_drop_more (stays_on at) rows i d h
 
-pub stays_past : (at : ℤ) (rows : List Segment) (i : ℕ) (all : Bool) → length rows ≤ i → stays_on at (drop i rows) ≡ all → true ≡ all
+-- a row that leads somewhere, and one that does not
+leads_on : (at to : ℤ) (s : Segment) (ss : List Segment) → leg_end at s.distance ≡ Some to → stays_on at (s ∷ ss) ≡ stays_on to ss
 unfolding stays_on
-stays_past at rows i all h e = sym (ap (stays_on at) (drop_past rows i h)) ∙ e
+leads_on at to s ss e = on (goes_to at (at +ℤ s.distance)) (at +ℤ s.distance) e
+  where
+    on : (b : Bool) (x : ℤ) → cond b (Some x) None ≡ Some to → (b && stays_on x ss) ≡ stays_on to ss
+    on true x h = cc
+    on false x h = cc
 
--- a leg that ends is one that goes there, and one that does not is none
-ended : (b : Bool) (x y : ℤ) → Some y ≡ cond b (Some x) None → (b ≡ true) × (x ≡ y)
-ended true x y e = (refl, cc)
-ended false x y e = let z : ◌≡◌ {A = ℕ} 0 1 = cc in absurd (omega arith)
+leads_off : (at : ℤ) (s : Segment) (ss : List Segment) → leg_end at s.distance ≡ None → stays_on at (s ∷ ss) ≡ false
+unfolding stays_on
+leads_off at s ss e = off (goes_to at (at +ℤ s.distance)) (at +ℤ s.distance) e
+  where
+    off : (b : Bool) (x : ℤ) → cond b (Some x) None ≡ None → (b && stays_on x ss) ≡ false
+    off true x h = cc
+    off false x h = refl
 
-unended : (b : Bool) (x : ℤ) → None ≡ cond b (Some x) None → b ≡ false
-unended true x e = let z : ◌≡◌ {A = ℕ} 0 1 = cc in absurd (omega arith)
-unended false x e = refl
+-- a course that is asked row by row, each turn from where the one before led to
+module _ {P : Type 0} (turn : P × ℤ → Bor Segment → P × ℤ → Type 0) (leads : (p q : P × ℤ) (x : Bor Segment) → turn p x q → leg_end p.1 x.now.distance ≡ Some q.1) where
+  walked :
+      (xs : List (Bor Segment)) (s t : Iter Segment) (p q : P × ℤ) → Yields fronts s xs t → FoldsTo turn p xs q
+      → stays_on p.1 s.rest.now ≡ stays_on q.1 t.rest.now
+  walked [] s t p q y f = cc
+  walked (x ∷ xs) s t p q y f =
+      ap (stays_on p.1) y.1 ∙ (leads_on p.1 f.0.1 x.now y.0.rest.now (leads p f.0 x f.1) ∙ walked xs y.0 t f.0 q y.2 f.2)
 
--- the course goes on from where the leg ends
-pub stays_further :
-    (at to : ℤ) (rows : List Segment) (i : ℕ) (d : Segment) (all : Bool) → i < length rows → Some to ≡ leg_end at (get_or rows i d).distance
-    → stays_on at (drop i rows) ≡ all → stays_on to (drop (i + 1) rows) ≡ all
-stays_further at to rows i d all h e f =
-    let q = ended (goes_to at (at +ℤ (get_or rows i d).distance)) (at +ℤ (get_or rows i d).distance) to e in
-    ap (λ z. stays_on z (drop (i + 1) rows)) (sym q.1)
-    ∙ (ap (λ b. b && stays_on (at +ℤ (get_or rows i d).distance) (drop (i + 1) rows)) (sym q.0) ∙ (sym (stays_next at rows i d h) ∙ f))
-
-pub stays_ends :
-    (at : ℤ) (rows : List Segment) (i : ℕ) (d : Segment) (all : Bool) → i < length rows → None ≡ leg_end at (get_or rows i d).distance
-    → stays_on at (drop i rows) ≡ all → false ≡ all
-stays_ends at rows i d all h e f =
-    let q = unended (goes_to at (at +ℤ (get_or rows i d).distance)) (at +ℤ (get_or rows i d).distance) e in
-    ap (λ b. b && stays_on (at +ℤ (get_or rows i d).distance) (drop (i + 1) rows)) (sym q) ∙ (sym (stays_next at rows i d h) ∙ f)
-
--- one turn of a loop that asks each direction
-pub clear_next :
-    (cw ccw : Bool) (rows : List Segment) (i : ℕ) (d : Segment) (one all : Bool) → i < length rows → one ≡ is_clear cw ccw (way_of (get_or rows i d))
-    → are_clear cw ccw (drop i rows) ≡ all → (one && are_clear cw ccw (drop (i + 1) rows)) ≡ all
-unfolding are_clear
-clear_next cw ccw rows i d one all h e f =
-    ap (λ b. b && are_clear cw ccw (drop (i + 1) rows)) e ∙ (sym (ap (are_clear cw ccw) (drop_next rows i d h)) ∙ f)
-
-pub clear_past : (cw ccw : Bool) (rows : List Segment) (i : ℕ) (all : Bool) → length rows ≤ i → are_clear cw ccw (drop i rows) ≡ all → true ≡ all
-unfolding are_clear
-clear_past cw ccw rows i all h e = sym (ap (are_clear cw ccw) (drop_past rows i h)) ∙ e
+  pub asked :
+      (xs : List (Bor Segment)) (o : Option (Bor Segment)) (s u : Iter Segment) (p q : P × ℤ) (r : Option ℤ) (Stops : Bor Segment → Type 0)
+      → YieldsThen fronts s xs o u → FoldsTo turn p xs q → ((x : Bor Segment) → Stops x → (r ≡ None) × (leg_end q.1 x.now.distance ≡ None))
+      → MatchOption o (r ≡ Some q.1) Stops → is_some r ≡ stays_on p.1 s.rest.now
+  unfolding stays_on
+  asked xs None s u p q r Stops y f h m =
+      ap is_some m ∙ sym (walked xs s y.0 p q y.1 f ∙ ap (stays_on q.1) (nil_from_length y.0.rest.now y.2.0))
+  asked xs (Some x) s u p q r Stops y f h m =
+      let w = h x m in
+      ap is_some w.0 ∙ sym (walked xs s y.0 p q y.1 f ∙ (ap (stays_on q.1) y.2 ∙ leads_off q.1 x.now u.rest.now w.1))

@@ -1,9 +1,11 @@
 -- Where moves lead: a move goes at least one step, and ends at a position.
 use Rattle.std.specs.Prelude.{Bool, true, cond, not, ◌&&◌, List, [], ◌∷◌, ℤ, ◌+ℤ◌, Some, None, Option, ◌==◌}
+use Rattle.std.specs.List.{list_all}
 use Rattle.drive.specs.Positions.{is_position, distance}
 use Rattle.drive.specs.declared.direction.Direction.{Direction}
 use Rattle.drive.specs.declared.direction.Direction.TheVariants.{Cw, Ccw}
 use Rattle.table.specs.Segments.{way_of}
+use Rattle.table.specs.declared.limits.Limits.{Limits}
 use Rattle.table.specs.declared.segment.Segment.{Segment}
 
 abbrev pub goes_to : ℤ → ℤ → Bool
@@ -19,11 +21,15 @@ stays_on from [] = true
 stays_on from (s ∷ ss) = goes_to from (from +ℤ s.distance) && stays_on (from +ℤ s.distance) ss
 
 -- the limit in a direction is off
-abbrev pub is_clear : Bool → Bool → Direction → Bool
-is_clear cw ccw Cw = not cw
-is_clear cw ccw Ccw = not ccw
+abbrev pub is_clear : Limits → Direction → Bool
+is_clear l Cw = not l.cw
+is_clear l Ccw = not l.ccw
 
 -- in the direction of each row
-unfoldable pub are_clear : Bool → Bool → List Segment → Bool
-are_clear cw ccw [] = true
-are_clear cw ccw (s ∷ ss) = is_clear cw ccw (way_of s) && are_clear cw ccw ss
+abbrev pub are_clear : Limits → List Segment → Bool
+are_clear l ss = list_all (λ s. is_clear l (way_of s)) ss
+
+-- the limit in a direction so, and the other as it is
+abbrev pub with_limit : Limits → Direction → Bool → Limits
+with_limit l Cw on = record { cw = on; ccw = l.ccw }
+with_limit l Ccw on = record { cw = l.cw; ccw = on }

@@ -1,6 +1,8 @@
 -- What a table means: the starting speed in force, its rows, and whether it is ready.
-use Rattle.std.specs.Prelude.{ℕ, min, max, Bool, true, false, cond, ◌&&◌, List, [], ◌∷◌, ◌++◌, length, take, nat_lt}
+use Rattle.std.specs.Prelude.{ℕ, min, max, Bool, true, false, cond, ◌&&◌, List, [], ◌∷◌, ◌++◌, length, Ok, Err, Result, nat_lt}
 use Rattle.table.specs.Segments.{is_segment}
+use Rattle.table.specs.declared.fault.TableFault.{TableFault}
+use Rattle.table.specs.declared.fault.TableFault.TheVariants as fault
 use Rattle.table.specs.declared.segment.Segment.{Segment}
 use Rattle.table.specs.declared.table.Table.{Table}
 
@@ -10,7 +12,7 @@ pub record TableMeans : Type 0 where
   pub ready : Bool
 
 abbrev pub table_means : Table → TableMeans
-table_means t = record { start = t.start; rows = take t.count t.segments; ready = t.ready }
+table_means t = record { start = t.start; rows = t.rows.items; ready = t.ready }
 
 -- without rows
 abbrev pub emptied : ℕ → TableMeans
@@ -31,6 +33,10 @@ added t s = record { start = t.start; rows = t.rows ++ s ∷ []; ready = t.ready
 -- a row that is added to a full table, or that is no segment for its starting speed, changes nothing
 abbrev pub takes : TableMeans → Segment → Bool
 takes t s = has_room t && is_segment t.start s
+
+-- what it answers: whether it is full is asked first
+abbrev pub taken : TableMeans → Segment → Result (Unit {0}) TableFault
+taken t s = cond (has_room t) (cond (is_segment t.start s) (Ok tt) (Err fault.Unfit)) (Err fault.Full)
 
 -- a programming ends: fewer than two rows are no table
 abbrev pub closed : TableMeans → TableMeans

@@ -2,6 +2,7 @@
 #![tactic(auto)]
 
 pub mod course;
-pub mod extent;
+pub mod fault;
+pub mod limits;
 pub mod segment;
 pub mod table;

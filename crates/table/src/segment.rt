@@ -6,7 +6,7 @@ use drive::direction::Direction;
 use drive::position::is_position;
 use profile::row::Row;
 
-#[derive(Clone, Copy)]
+#[derive(Clone, Copy, PartialEq, Eq, Debug, Default)]
 pub struct Segment {
     pub distance: i32,
     pub speed: u32,
@@ -33,9 +33,6 @@ impl Segment {
     pub(crate) fn fits(self, start: u32) -> bool
         ensures { result ≡ is_segment start self }
     {
-        self.distance != 0
-            && is_position(self.distance)
-            && start <= self.speed
-            && self.speed <= 200_000
+        self.distance != 0 && is_position(self.distance) && (start..=200_000).contains(&self.speed)
     }
 }

@@ -112,7 +112,7 @@ module _ (g : ℕ) (d : DriveMeans) (t : TableMeans) (run : DwellRun) (i : ℕ) 
   row = row_at t i
 
   abbrev plan : PlanMeans
-  plan = row_plan t run.rates.accel run.rates.decel i
+  plan = row_plan t run.rates i
 
   pub row_lawful : Lawful plan
   row_lawful =

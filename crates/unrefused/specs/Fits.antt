@@ -11,17 +11,17 @@ use Rattle.block.specs.declared.frame.Block.{Block}
 use Rattle.block.specs.declared.refusal.Refusal.{Refusal}
 use Rattle.table.specs.Courses.{stays_on}
 use Rattle.table.specs.Segments.{are_segments}
+use Rattle.table.specs.TablePlans.{row_plan}
 use Rattle.table.specs.Tables.{TableMeans}
 use Rattle.table.specs.declared.segment.Segment.{Segment}
 use Rattle.axis.specs.Axes.{AxisMeans, powered_up}
 use Rattle.axis.specs.Blocks.{after, UsesOf}
 use Rattle.axis.specs.Carrying.{row_travel}
 use Rattle.axis.specs.EventCalls.{after_of}
-use Rattle.axis.specs.Plans.{row_of_run}
 use Rattle.axis.specs.Setups.{setup_after}
 use Rattle.axis.specs.Ticks.{due, takes_all, is_plan, tick_after, TickUses}
 use Rattle.axis.specs.declared.order.DwellRun.{DwellRun}
-use Rattle.axis.specs.declared.order.Rates.{Rates}
+use Rattle.profile.specs.declared.rates.Rates.{Rates}
 use Rattle.axis.specs.declared.state.Kind.{Kind}
 use Rattle.axis.specs.declared.state.Kind.TheVariants.{Single, Blend, Dwell}
 use Rattle.axis.specs.declared.state.State.{State}
@@ -83,8 +83,8 @@ Underway g (Held target) d p t = Unit {0}
 
 -- what every call keeps
 pub record Fit (g : ℕ) (m : AxisMeans) : Type 0 where
-  pub table : TableFits g m.table
-  pub underway : Underway g m.state m.drive m.profile m.table
+  pub table : TableFits g m.memory.table
+  pub underway : Underway g m.memory.state m.drive m.profile m.memory.table
 
 -- No advance is refused in a tick of m after which the profile means p: the drive takes the steps due, and a row of a dwell move
 -- whose pause is over is a plan.
@@ -94,13 +94,13 @@ UnrefusedIn g Programming m p = Unit {0}
 UnrefusedIn g (Running travel) m p = takes_all g m.drive (due travel.direction m.profile.gone p) ≡ true
 UnrefusedIn g (Pausing run row ticks) m p =
     MatchBool (ticks == 0)
-    ((is_plan (row_of_run m run row) ≡ true) × (takes_all g m.drive (due (row_travel m run row).direction 0 p) ≡ true))
+    ((is_plan (row_plan m.memory.table run.rates row) ≡ true) × (takes_all g m.drive (due (row_travel m.memory.table run row).direction 0 p) ≡ true))
     (Unit {0})
 UnrefusedIn g (Holding travel) m p = takes_all g m.drive (due travel.direction m.profile.gone p) ≡ true
 UnrefusedIn g (Held target) m p = Unit {0}
 
 abbrev pub Unrefused : ℕ → AxisMeans → ProfileMeans → Type 0
-Unrefused g m p = UnrefusedIn g m.state m p
+Unrefused g m p = UnrefusedIn g m.memory.state m p
 
 -- Over a drive that goes at most g steps at once: an axis is fit from power-up on, every call keeps it so, and no tick of a fit axis
 -- is refused. The drive stands at a position and the profile is sound after its tick, as every drive and every profile is.
@@ -112,8 +112,8 @@ pub record TakesAll (g : ℕ) : Type 0 where
       (m : AxisMeans) (b : Result Block Refusal) (p : ProfileMeans) → is_position m.drive.place ≡ true → Fit g m → UsesOf g m b p
       → Fit g (after g m b p)
   pub tick :
-      (m : AxisMeans) (p : ProfileMeans) → is_position m.drive.place ≡ true → Fit g m → Sound p → TickUses m.state m p
-      → Unrefused g m p × Fit g (tick_after g m.state m p)
+      (m : AxisMeans) (p : ProfileMeans) → is_position m.drive.place ≡ true → Fit g m → Sound p → TickUses m.memory.state m p
+      → Unrefused g m p × Fit g (tick_after g m.memory.state m p)
 
 -- over any drive that goes 1 to 200 steps at once
 abbrev pub DriveTakesAll : Type 0

@@ -2,7 +2,7 @@
 ghost use Rattle.std.specs.Prelude.{◌≡◌, false, is_ok};
 ghost use Rattle.block.specs.Events.{event_of};
 ghost use Rattle.axis.specs.Axes.{meaning};
-ghost use Rattle.axis.specs.EventCalls.{halted_by_input, event_after, calls_drive, answer_of, after_of, calls_of};
+ghost use Rattle.axis.specs.EventCalls.{event_after, calls_drive, answer_of, after_of, calls_of};
 
 use crate::axis::Axis;
 use crate::state::State;
@@ -12,16 +12,6 @@ use drive::traits::Drive;
 use profile::traits::Profile;
 
 impl<D: Drive, P: Profile> Axis<D, P> {
-    // A full stop by an input.
-    fn halt(&mut self)
-        ensures after { meaning D.Drive P.Profile self.new ≡ halted_by_input (meaning D.Drive P.Profile self.old) }
-        ensures drive { self.new.drive ≡ self.old.drive }
-        ensures profile { self.new.profile ≡ self.old.profile }
-    {
-        self.flags.input = true;
-        self.stop();
-    }
-
     fn trip(&mut self)
         ensures after { meaning D.Drive P.Profile self.new ≡ event_after (meaning D.Drive P.Profile self.old) Event.Trip }
         ensures drive { calls_drive (meaning D.Drive P.Profile self.old) Event.Trip ≡ false → self.new.drive ≡ self.old.drive }
@@ -29,7 +19,7 @@ impl<D: Drive, P: Profile> Axis<D, P> {
     {
         if !self.drive.tripped() {
             self.drive.trip();
-            self.stop();
+            self.memory.stop();
         }
     }
 
@@ -38,27 +28,20 @@ impl<D: Drive, P: Profile> Axis<D, P> {
         ensures drive { calls_drive (meaning D.Drive P.Profile self.old) event ≡ false → self.new.drive ≡ self.old.drive }
         ensures profile { self.new.profile ≡ self.old.profile }
     {
-        match (&self.state, event) {
-            (State::Running(_) | State::Pausing(_, _, _) | State::Holding(_), Event::CwLimitOn)
-                if !self.levels.cw => {
-                self.levels.cw = true;
-                self.halt();
+        match (&self.memory.state, event) {
+            (
+                State::Running(_) | State::Pausing(_, _, _) | State::Holding(_),
+                Event::Limit(direction, true),
+            ) if self.memory.levels.limits.is_clear(direction) => {
+                self.memory.levels.limits.set(direction, true);
+                self.memory.halt();
             }
-            (State::Running(_) | State::Pausing(_, _, _) | State::Holding(_), Event::CcwLimitOn)
-                if !self.levels.ccw => {
-                self.levels.ccw = true;
-                self.halt();
+            (_, Event::EStop(true)) if !self.memory.levels.estop => {
+                self.memory.levels.estop = true;
+                self.memory.halt();
             }
-            (_, Event::EStopOn) if !self.levels.estop => {
-                self.levels.estop = true;
-                self.halt();
-            }
-            (_, Event::CwLimitOn) => self.levels.cw = true,
-            (_, Event::CwLimitOff) => self.levels.cw = false,
-            (_, Event::CcwLimitOn) => self.levels.ccw = true,
-            (_, Event::CcwLimitOff) => self.levels.ccw = false,
-            (_, Event::EStopOn) => {}
-            (_, Event::EStopOff) => self.levels.estop = false,
+            (_, Event::Limit(direction, on)) => self.memory.levels.limits.set(direction, on),
+            (_, Event::EStop(on)) => self.memory.levels.estop = on,
             (_, Event::Trip) => self.trip(),
         }
     }
@@ -71,7 +54,7 @@ impl<D: Drive, P: Profile> Axis<D, P> {
         ensures drive { calls_of (meaning D.Drive P.Profile self.old) (event_of code) ≡ false → self.new.drive ≡ self.old.drive }
         ensures profile { self.new.profile ≡ self.old.profile }
     {
-        let event = Event::of(code)?;
+        let event = Event::try_from(code)?;
         self.heed(event);
         Ok(())
     }

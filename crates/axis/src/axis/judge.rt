@@ -1,37 +1,51 @@
 // A block is judged first, which changes nothing: what it orders, or why it is refused.
-ghost use Rattle.std.specs.Prelude.{◌≡◌, ◌≤◌, true, ◌+ℤ◌, unsigned_abs};
+ghost use Rattle.std.specs.Prelude.{◌≡◌, ◌≤◌, true, pos, ◌+ℤ◌, unsigned_abs};
 ghost use Rattle.drive.specs.Positions.{is_position};
+ghost use Rattle.block.specs.Pairs.{decoded};
 ghost use Rattle.axis.specs.Axes.{meaning};
 ghost use Rattle.axis.specs.Plans.{blend_end};
-ghost use Rattle.axis.specs.Judging.{allowed, inhibited as inhibited_of, in_range as in_range_of, speed_fits, rates_fit, rates_of, leg_of, dwell_fits, run_of, blend_way, pace_fits, go_judged, on_course, absolute_asked, relative_asked, resume_asked, segment_asked, absolute_judged, relative_judged, resume_judged, blend_judged, dwell_judged, preset_judged, segment_judged, values_judged, judged};
+ghost use Rattle.axis.specs.Judging.{heard, allowed, inhibited as inhibited_of, in_range, speed_fits, rates_fit, rates_of, leg_of, dwell_fits, run_of, pace_fits, go_judged, on_course, may_move, absolute_asked, relative_asked, segment_asked, absolute_judged, relative_judged, resume_judged, blend_judged, dwell_judged, preset_judged, segment_judged, values_judged, judged};
 
 use crate::axis::Axis;
-use crate::order::{DwellRun, Leg, Order, Rates};
+use crate::order::{DwellRun, Leg, Order};
 use crate::state::State;
 use block::command::{Command, commanded};
 use block::frame::Block;
+use block::pair::Pair;
 use block::refusal::Refusal;
 use drive::direction::Direction;
 use drive::position::is_position;
 use drive::traits::Drive;
+use profile::rates::Rates;
 use profile::traits::Profile;
-use table::course::{are_clear, goes_to, is_clear, stays_on};
+use table::course::{goes_to, stays_on};
 use table::segment::Segment;
 
-// Whether a number is within two others, both included.
-fn in_range(low: i32, high: i32, n: i32) -> bool
-    ensures { result ≡ in_range_of low high n }
+// The number that two words say. Every pair is taken apart here, by `let .. else`, a form that the rules of the project ask for.
+fn number(pair: Pair) -> Result<i32, Refusal>
+    ensures { result ≡ heard (decoded pair) }
 {
-    low <= n && n <= high
+    let Some(number) = pair.decode() else {
+        return Err(Refusal::Pair);
+    };
+    Ok(number)
 }
 
-// Whether acceleration and deceleration are in range.
+// Whether an acceleration or a deceleration is in range.
+fn rate_fits(rate: i16) -> bool
+    ensures { result ≡ in_range (pos 1) (pos 5000) rate }
+{
+    (1..=5000).contains(&rate)
+}
+
+#[tactic(auto, unfolding(crate::specs::Judging::rates_fit))]
 fn rates_fit(block: Block) -> bool
     ensures { result ≡ rates_fit block }
 {
-    in_range(1, 5000, i32::from(block.accel)) && in_range(1, 5000, i32::from(block.decel))
+    rate_fits(block.accel) && rate_fits(block.decel)
 }
 
+// The numbers of a block stand for these only once they are in range, so neither this nor those below are a `From`.
 fn rates_of(block: Block) -> Rates
     ensures { result ≡ rates_of block }
 {
@@ -61,10 +75,11 @@ fn leg_of(block: Block, target: i32, speed: i32) -> Leg
     }
 }
 
+#[tactic(auto, unfolding(crate::specs::Judging::dwell_fits))]
 fn dwell_fits(block: Block) -> bool
     ensures { result ≡ dwell_fits block }
 {
-    in_range(0, 30_000, i32::from(block.dwell))
+    (0..=30_000).contains(&block.dwell)
 }
 
 fn run_of(block: Block) -> DwellRun
@@ -76,22 +91,10 @@ fn run_of(block: Block) -> DwellRun
     }
 }
 
-fn blend_direction(block: Block) -> Direction
-    ensures { result ≡ blend_way block }
-{
-    if block.is_ccw() {
-        Direction::Ccw
-    } else {
-        Direction::Cw
-    }
-}
-
 fn judge_preset(block: Block) -> Result<Order, Refusal>
     ensures { result ≡ preset_judged block }
 {
-    let Some(place) = block.place.decode() else {
-        return Err(Refusal::Pair);
-    };
+    let place = number(block.place)?;
     if !is_position(place) {
         return Err(Refusal::Range);
     }
@@ -103,34 +106,57 @@ impl<D: Drive, P: Profile> Axis<D, P> {
     fn allows(&self, command: Command) -> bool
         ensures { result ≡ allowed (meaning D.Drive P.Profile self.now) command }
     {
-        match (&self.state, command) {
+        match (&self.memory.state, command) {
             (_, Command::Stop) => true,
             (State::Idle | State::Held(_), Command::Reset) => true,
             (State::Running(_) | State::Pausing(_, _, _), Command::Hold) => true,
             (State::Held(_), Command::Resume) => true,
-            (State::Programming, Command::Segment) if self.table.has_room() => true,
-            (State::Idle | State::Held(_), Command::Absolute) if !self.flags.configuration => true,
-            (State::Idle | State::Held(_), Command::Relative) if !self.flags.configuration => true,
-            (State::Idle | State::Held(_), Command::Preset) if !self.flags.configuration => true,
-            (State::Idle | State::Held(_), Command::Program) if !self.flags.configuration => true,
+            (State::Programming, Command::Segment) if self.memory.table.has_room() => true,
+            (
+                State::Idle | State::Held(_),
+                Command::Absolute | Command::Relative | Command::Preset | Command::Program,
+            ) if !self.memory.flags.configuration => true,
             (State::Idle | State::Held(_), Command::Run)
-                if !self.flags.configuration && self.table.is_ready() => true,
+                if !self.memory.flags.configuration && self.memory.table.is_ready() => true,
             _ => false,
         }
     }
 
     // Are Input_Error, the E-stop or a trip on?
+    #[tactic(auto, unfolding(crate::specs::Judging::inhibited))]
     fn is_inhibited(&self) -> bool
         ensures { result ≡ inhibited_of (meaning D.Drive P.Profile self.now) }
     {
-        self.flags.input || self.levels.estop || self.drive.tripped()
+        self.memory.flags.input || self.memory.levels.estop || self.drive.tripped()
     }
 
     // Is a speed within the starting speed and what the drive goes in a tick?
+    #[tactic(auto, unfolding(crate::specs::Judging::speed_fits))]
     fn speed_fits(&self, speed: i32) -> bool
-        ensures { result ≡ speed_fits D.Drive.reach (meaning D.Drive P.Profile self.now) speed }
+        ensures { result ≡ speed_fits D.Drive.G (meaning D.Drive P.Profile self.now) speed }
     {
-        in_range(self.table.start() as i32, (1000 * D::reach()) as i32, speed)
+        (self.memory.table.start() as i32..=(1000 * D::G) as i32).contains(&speed)
+    }
+
+    // Are the speed and the rates of a move in range?
+    #[tactic(auto, unfolding(crate::specs::Judging::pace_fits))]
+    fn pace_fits(&self, block: Block, speed: i32) -> bool
+        ensures { result ≡ pace_fits D.Drive.G (meaning D.Drive P.Profile self.now) block speed }
+    {
+        self.speed_fits(speed) && rates_fit(block)
+    }
+
+    // Are the numbers of a move in range, and is nothing on that inhibits it?
+    fn ask_move(&self, fits: bool) -> Result<(), Refusal>
+        ensures { result ≡ may_move (meaning D.Drive P.Profile self.now) fits }
+    {
+        if !fits {
+            return Err(Refusal::Range);
+        }
+        if self.is_inhibited() {
+            return Err(Refusal::Inhibited);
+        }
+        Ok(())
     }
 
     // Does a move to a target go at least one step to a position, and is the limit in its direction off?
@@ -140,12 +166,13 @@ impl<D: Drive, P: Profile> Axis<D, P> {
         if !goes_to(self.drive.place(), target) {
             return Err(Refusal::Course);
         }
-        if !is_clear(self.levels.cw, self.levels.ccw, direction) {
+        if !self.memory.levels.limits.is_clear(direction) {
             return Err(Refusal::Limit);
         }
         Ok(order)
     }
 
+    #[tactic(auto, unfolding(crate::specs::Judging::go_judged))]
     fn judge_go(&self, leg: Leg) -> Result<Order, Refusal>
         ensures { result ≡ go_judged (meaning D.Drive P.Profile self.now) leg }
     {
@@ -153,37 +180,24 @@ impl<D: Drive, P: Profile> Axis<D, P> {
         self.on_course(leg.target, direction, Order::Go(leg))
     }
 
-    // Are the speed and the rates of a move in range?
-    fn pace_fits(&self, block: Block, speed: i32) -> bool
-        ensures { result ≡ pace_fits D.Drive.reach (meaning D.Drive P.Profile self.now) block speed }
-    {
-        self.speed_fits(speed) && rates_fit(block)
-    }
-
     fn ask_absolute(&self, block: Block, target: i32, speed: i32) -> Result<Order, Refusal>
-        ensures { result ≡ absolute_asked D.Drive.reach (meaning D.Drive P.Profile self.now) block target speed }
+        ensures { result ≡ absolute_asked D.Drive.G (meaning D.Drive P.Profile self.now) block target speed }
     {
-        if !is_position(target) || !self.pace_fits(block, speed) {
+        if !is_position(target) {
             return Err(Refusal::Range);
         }
-        if self.is_inhibited() {
-            return Err(Refusal::Inhibited);
-        }
-        if self.flags.invalid {
+        self.ask_move(self.pace_fits(block, speed))?;
+        if self.memory.flags.invalid {
             return Err(Refusal::PositionInvalid);
         }
         self.judge_go(leg_of(block, target, speed))
     }
 
     fn judge_absolute(&self, block: Block) -> Result<Order, Refusal>
-        ensures { result ≡ absolute_judged D.Drive.reach (meaning D.Drive P.Profile self.now) block }
+        ensures { result ≡ absolute_judged D.Drive.G (meaning D.Drive P.Profile self.now) block }
     {
-        let Some(target) = block.place.decode() else {
-            return Err(Refusal::Pair);
-        };
-        let Some(speed) = block.speed.decode() else {
-            return Err(Refusal::Pair);
-        };
+        let target = number(block.place)?;
+        let speed = number(block.speed)?;
         self.ask_absolute(block, target, speed)
     }
 
@@ -196,60 +210,36 @@ impl<D: Drive, P: Profile> Axis<D, P> {
     }
 
     fn ask_relative(&self, block: Block, offset: i32, speed: i32) -> Result<Order, Refusal>
-        ensures { result ≡ relative_asked D.Drive.reach (meaning D.Drive P.Profile self.now) block offset speed }
+        ensures { result ≡ relative_asked D.Drive.G (meaning D.Drive P.Profile self.now) block offset speed }
     {
-        if !is_position(offset) || !self.pace_fits(block, speed) {
+        if !is_position(offset) {
             return Err(Refusal::Range);
         }
-        if self.is_inhibited() {
-            return Err(Refusal::Inhibited);
-        }
+        self.ask_move(self.pace_fits(block, speed))?;
         self.judge_go(leg_of(block, self.offset_end(offset), speed))
     }
 
     fn judge_relative(&self, block: Block) -> Result<Order, Refusal>
-        ensures { result ≡ relative_judged D.Drive.reach (meaning D.Drive P.Profile self.now) block }
+        ensures { result ≡ relative_judged D.Drive.G (meaning D.Drive P.Profile self.now) block }
     {
-        let Some(offset) = block.place.decode() else {
-            return Err(Refusal::Pair);
-        };
-        let Some(speed) = block.speed.decode() else {
-            return Err(Refusal::Pair);
-        };
+        let offset = number(block.place)?;
+        let speed = number(block.speed)?;
         self.ask_relative(block, offset, speed)
     }
 
-    fn ask_resume(&self, block: Block, target: i32, speed: i32) -> Result<Order, Refusal>
-        ensures { result ≡ resume_asked D.Drive.reach (meaning D.Drive P.Profile self.now) block target speed }
-    {
-        if !self.pace_fits(block, speed) {
-            return Err(Refusal::Range);
-        }
-        if self.is_inhibited() {
-            return Err(Refusal::Inhibited);
-        }
-        self.judge_go(leg_of(block, target, speed))
-    }
-
     fn judge_resume(&self, block: Block, target: i32) -> Result<Order, Refusal>
-        ensures { result ≡ resume_judged D.Drive.reach (meaning D.Drive P.Profile self.now) block target }
+        ensures { result ≡ resume_judged D.Drive.G (meaning D.Drive P.Profile self.now) block target }
     {
-        let Some(speed) = block.speed.decode() else {
-            return Err(Refusal::Pair);
-        };
-        self.ask_resume(block, target, speed)
+        let speed = number(block.speed)?;
+        self.ask_move(self.pace_fits(block, speed))?;
+        self.judge_go(leg_of(block, target, speed))
     }
 
     fn judge_blend(&self, block: Block) -> Result<Order, Refusal>
         ensures { result ≡ blend_judged (meaning D.Drive P.Profile self.now) block }
     {
-        if !rates_fit(block) {
-            return Err(Refusal::Range);
-        }
-        if self.is_inhibited() {
-            return Err(Refusal::Inhibited);
-        }
-        let direction = blend_direction(block);
+        self.ask_move(rates_fit(block))?;
+        let direction = block.direction();
         self.on_course(
             self.blend_end(direction),
             direction,
@@ -260,16 +250,16 @@ impl<D: Drive, P: Profile> Axis<D, P> {
     fn judge_dwell(&self, block: Block) -> Result<Order, Refusal>
         ensures { result ≡ dwell_judged (meaning D.Drive P.Profile self.now) block }
     {
-        if !(rates_fit(block) && dwell_fits(block)) {
-            return Err(Refusal::Range);
-        }
-        if self.is_inhibited() {
-            return Err(Refusal::Inhibited);
-        }
-        if !stays_on(self.drive.place(), self.table.rows()) {
+        self.ask_move(rates_fit(block) && dwell_fits(block))?;
+        if !stays_on(self.drive.place(), self.memory.table.rows()) {
             return Err(Refusal::Course);
         }
-        if !are_clear(self.levels.cw, self.levels.ccw, self.table.rows()) {
+        if !self
+            .memory
+            .levels
+            .limits
+            .are_clear(self.memory.table.rows())
+        {
             return Err(Refusal::Limit);
         }
         Ok(Order::Dwell(run_of(block)))
@@ -281,45 +271,40 @@ impl<D: Drive, P: Profile> Axis<D, P> {
     {
         displaced(
             self.drive.place(),
-            direction.signed(self.table.blend_steps() as u64),
+            direction.signed(self.memory.table.blend_steps() as u64),
         )
     }
 
     fn ask_segment(&self, distance: i32, speed: i32) -> Result<Order, Refusal>
-        ensures { result ≡ segment_asked D.Drive.reach (meaning D.Drive P.Profile self.now) distance speed }
+        ensures { result ≡ segment_asked D.Drive.G (meaning D.Drive P.Profile self.now) distance speed }
     {
         if !(distance != 0 && is_position(distance) && self.speed_fits(speed)) {
             return Err(Refusal::Range);
         }
-        let segment = Segment {
+        Ok(Order::Segment(Segment {
             distance,
             speed: speed.unsigned_abs(),
-        };
-        Ok(Order::Segment(segment))
+        }))
     }
 
     fn judge_segment(&self, block: Block) -> Result<Order, Refusal>
-        ensures { result ≡ segment_judged D.Drive.reach (meaning D.Drive P.Profile self.now) block }
+        ensures { result ≡ segment_judged D.Drive.G (meaning D.Drive P.Profile self.now) block }
     {
-        let Some(distance) = block.place.decode() else {
-            return Err(Refusal::Pair);
-        };
-        let Some(speed) = block.speed.decode() else {
-            return Err(Refusal::Pair);
-        };
+        let distance = number(block.place)?;
+        let speed = number(block.speed)?;
         self.ask_segment(distance, speed)
     }
 
     // Judges the values of a command that the state allows.
     fn judge_values(&self, block: Block, command: Command) -> Result<Order, Refusal>
-        ensures { result ≡ values_judged D.Drive.reach (meaning D.Drive P.Profile self.now) block command }
+        ensures { result ≡ values_judged D.Drive.G (meaning D.Drive P.Profile self.now) block command }
     {
         match command {
             Command::Absolute => self.judge_absolute(block),
             Command::Relative => self.judge_relative(block),
             Command::Hold => Ok(Order::Hold),
             Command::Resume => {
-                let State::Held(target) = self.state else {
+                let State::Held(target) = self.memory.state else {
                     return Err(Refusal::State);
                 };
                 self.judge_resume(block, target)
@@ -341,7 +326,7 @@ impl<D: Drive, P: Profile> Axis<D, P> {
 
     // What a block orders by the bits that rise.
     pub(crate) fn judge(&self, rising: u16, block: Block) -> Result<Order, Refusal>
-        ensures { result ≡ judged D.Drive.reach (meaning D.Drive P.Profile self.now) rising block }
+        ensures { result ≡ judged D.Drive.G (meaning D.Drive P.Profile self.now) rising block }
     {
         let Some(command) = commanded(rising)? else {
             return Ok(Order::Nothing);

@@ -3,11 +3,10 @@ ghost use Rattle.std.specs.Prelude.{◌≡◌};
 ghost use Rattle.axis.specs.Axes.{meaning, powered_up};
 
 use crate::axis::Axis;
-use crate::flags::{Flags, Levels, Pace};
-use crate::state::State;
+use crate::flags::Flags;
+use crate::memory::Memory;
 use drive::traits::Drive;
 use profile::traits::Profile;
-use table::table::Table;
 
 impl<D: Drive, P: Profile> Axis<D, P> {
     // An axis empty of any past, over a drive and a profile.
@@ -19,22 +18,7 @@ impl<D: Drive, P: Profile> Axis<D, P> {
         Axis {
             drive,
             profile,
-            table: Table::new(1),
-            state: State::Idle,
-            kept: 0,
-            flags: Flags {
-                configuration: true,
-                command: false,
-                input: false,
-                invalid: true,
-                complete: false,
-            },
-            levels: Levels {
-                cw: false,
-                ccw: false,
-                estop: false,
-            },
-            pace: Pace { last: 0, before: 0 },
+            memory: Memory::power_up(),
         }
     }
 
@@ -52,8 +36,8 @@ impl<D: Drive, P: Profile> Axis<D, P> {
     }
 
     pub fn flags(&self) -> Flags
-        ensures { result ≡ self.now.flags }
+        ensures { result ≡ self.now.memory.flags }
     {
-        self.flags
+        self.memory.flags
     }
 }

@@ -13,23 +13,23 @@ use table::table::Table;
 impl<D: Drive, P: Profile> Axis<D, P> {
     // Takes the starting speed of all moves, in millisteps a tick.
     pub fn set_up(&mut self, speed: i32) -> Result<(), Refusal>
-        ensures answer { result ≡ setup_answer D.Drive.reach (meaning D.Drive P.Profile self.old) speed }
-        ensures after { meaning D.Drive P.Profile self.new ≡ setup_after D.Drive.reach (meaning D.Drive P.Profile self.old) speed }
-        ensures busy { is_idle self.old.state ≡ false → self.new ≡ self.old }
+        ensures answer { result ≡ setup_answer D.Drive.G (meaning D.Drive P.Profile self.old) speed }
+        ensures after { meaning D.Drive P.Profile self.new ≡ setup_after D.Drive.G (meaning D.Drive P.Profile self.old) speed }
+        ensures busy { is_idle self.old.memory.state ≡ false → self.new ≡ self.old }
         ensures drive { self.new.drive ≡ self.old.drive }
         ensures profile { self.new.profile ≡ self.old.profile }
     {
-        let State::Idle = self.state else {
+        let State::Idle = self.memory.state else {
             return Err(Refusal::State);
         };
-        if speed < 1 || speed > (1000 * D::reach()) as i32 {
-            self.flags.configuration = true;
-            self.table.clear();
+        if !(1..=(1000 * D::G) as i32).contains(&speed) {
+            self.memory.flags.configuration = true;
+            self.memory.table.clear();
             return Err(Refusal::StartSpeed);
         }
-        self.flags.configuration = false;
-        self.flags.invalid = true;
-        self.table = Table::new(speed.unsigned_abs());
+        self.memory.flags.configuration = false;
+        self.memory.flags.invalid = true;
+        self.memory.table = Table::new(speed.unsigned_abs());
         Ok(())
     }
 }

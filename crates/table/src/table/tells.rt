@@ -1,6 +1,7 @@
 // What a table tells.
-ghost use Rattle.std.specs.Prelude.{◌≡◌};
+ghost use Rattle.std.specs.Prelude.{◌≡◌, slice_get};
 ghost use Rattle.table.specs.Tables.{table_means};
+ghost use Rattle.table.specs.TablePlans.{row_at};
 
 use super::Table;
 use crate::segment::Segment;
@@ -22,6 +23,20 @@ impl Table {
     pub fn rows(&self) -> &[Segment]
         ensures { result.now ≡ (table_means self.now).rows }
     {
-        &self.segments[0..self.count]
+        self.rows.as_slice()
+    }
+
+    // Row `i`, if there is one.
+    pub fn get(&self, i: usize) -> Option<Segment>
+        ensures { result ≡ slice_get (table_means self.now).rows i }
+    {
+        self.rows().get(i).copied()
+    }
+
+    // Row `i`; past the last row, a segment of no step, of which no plan comes: who asks for a plan is refused there.
+    pub fn row(&self, i: usize) -> Segment
+        ensures { result ≡ row_at (table_means self.now) i }
+    {
+        self.get(i).unwrap_or_default()
     }
 }

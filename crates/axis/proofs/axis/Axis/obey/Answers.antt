@@ -1,18 +1,23 @@
 use Rattle.std.proofs.Common.{sym}
-use Rattle.axis.specs.Axes.{meaning}
-use Rattle.axis.proofs.Readiness.{Sane, rows_few, rows_enough, judged_ready}
+use Rattle.axis.specs.Axes.{AxisMeans}
+use Rattle.axis.specs.Memories.{memory_means}
+use Rattle.axis.proofs.Orders.{judged_follows}
+use Rattle.axis.proofs.Readiness.{Sane, rows_enough, ready}
+use Rattle.axis.specs.Carrying.{Ready}
 use Rattle.axis.proofs.axis.Axis.obey.Goals as goal
 
 pub carry-requires : goal.carry-requires
 carry-requires g c =
-    let a = c.keep.new.self in
-    let sane : Sane g.D.Drive.reach (meaning g.D.Drive g.P.Profile a) =
+    let a = c.args.self.now in
+    let k = c.keep.new.self in
+    let m : AxisMeans = record { drive = g.D.Drive.means a.drive; profile = g.P.Profile.means a.profile; memory = memory_means k } in
+    let sane : Sane g.D.Drive.G m =
     record {
       reach = g.met.D.Drive.bounded.1;
       placed = g.met.D.Drive.placed a.drive;
-      starts = a.table.starts;
-      each = a.table.each;
-      few = rows_few a.table;
-      enough = rows_enough a.table;
+      starts = k.table.starts;
+      each = k.table.each;
+      few = k.table.few;
+      enough = rows_enough k.table;
     } in
-    judged_ready g.D.Drive.reach (meaning g.D.Drive g.P.Profile a) sane c.rising-risen.result c.args.block c.in-Ok.order (sym c.in-Ok.ensures)
+    judged_follows g.D.Drive.G m (Ready m) (ready g.D.Drive.G m sane) c.rising-risen.result c.args.block c.in-Ok.order (sym c.in-Ok.ensures)

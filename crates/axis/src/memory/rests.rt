@@ -1,0 +1,92 @@
+// How the axis comes to rest.
+ghost use Rattle.std.specs.Prelude.{◌≡◌};
+ghost use Rattle.axis.specs.Memories.{memory_means};
+ghost use Rattle.axis.specs.Stops.{stopped, completed, rested, eased, ended, arrived, gone_on, halted_by_input};
+
+use super::Memory;
+use crate::state::{Kind, State, Travel};
+
+impl Memory {
+    // A full stop.
+    pub(crate) fn stop(&mut self)
+        ensures { memory_means self.new ≡ stopped (memory_means self.old) }
+    {
+        if let State::Programming = self.state {
+            self.table.clear();
+        }
+        self.state = State::Idle;
+        self.flags.invalid = true;
+    }
+
+    // A full stop by an input.
+    pub(crate) fn halt(&mut self)
+        ensures { memory_means self.new ≡ halted_by_input (memory_means self.old) }
+    {
+        self.flags.input = true;
+        self.stop();
+    }
+
+    // The end of a move.
+    fn complete(&mut self)
+        ensures { memory_means self.new ≡ completed (memory_means self.old) }
+    {
+        self.state = State::Idle;
+        self.flags.complete = true;
+    }
+
+    // The end of holding, with the drive at a place.
+    fn rest(&mut self, place: i32, kind: Kind)
+        ensures { memory_means self.new ≡ rested (memory_means self.old) place kind }
+    {
+        match kind {
+            Kind::Single(target) if place == target => self.complete(),
+            Kind::Single(target) => self.state = State::Held(target),
+            Kind::Blend | Kind::Dwell(_, _) => self.state = State::Idle,
+        }
+    }
+
+    // Holding goes on, or ends as soon as nothing is left.
+    pub(crate) fn ease(&mut self, done: bool, place: i32, travel: Travel)
+        ensures { memory_means self.new ≡ eased (memory_means self.old) done place travel }
+    {
+        if done {
+            self.rest(place, travel.kind);
+        } else {
+            self.state = State::Holding(travel);
+        }
+    }
+
+    // The end of a plan.
+    fn end(&mut self, kind: Kind)
+        ensures { memory_means self.new ≡ ended (memory_means self.old) kind }
+    {
+        match kind {
+            Kind::Dwell(run, row) if self.table.has_after(row) => {
+                self.state = State::Pausing(run, row + 1, run.dwell);
+            }
+            Kind::Single(_) | Kind::Blend | Kind::Dwell(_, _) => self.complete(),
+        }
+    }
+
+    // Running goes on until nothing is left.
+    fn arrive(&mut self, done: bool, travel: Travel)
+        ensures { memory_means self.new ≡ arrived (memory_means self.old) done travel }
+    {
+        if done {
+            self.end(travel.kind);
+        } else {
+            self.state = State::Running(travel);
+        }
+    }
+
+    // What moves goes on, with the drive at a place.
+    pub(crate) fn go_on(&mut self, done: bool, place: i32)
+        ensures { memory_means self.new ≡ gone_on self.old.state (memory_means self.old) done place }
+    {
+        match self.state {
+            State::Running(travel) => self.arrive(done, travel),
+            State::Holding(travel) => self.ease(done, place, travel),
+            State::Idle | State::Programming | State::Pausing(_, _, _) | State::Held(_) => {}
+        }
+    }
+}
