@@ -1,15 +1,13 @@
 -- A table with a bed, and what each line of a script makes of it.
-use Rattle.std.specs.Prelude.{◌≡◌, ℕ, Bool, true, take, ℤ, Some, None, Ok, Err, MatchBool, Option, Result, MatchOption}
+use Rattle.std.specs.Prelude.{◌≡◌, ℕ, Bool, true, ℤ, Some, None, Ok, Err, MatchBool, Option, Result, MatchOption}
 use Rattle.cut.specs.Cuts.{judged, planned, blend_judged, blend_end, Carried}
 use Rattle.cut.specs.declared.fault.CutFault.{CutFault}
-use Rattle.cut.specs.declared.order.Cut.{Cut}
 use Rattle.cut.specs.declared.order.Report.{Report}
 use Rattle.drive.specs.Drives.{DriveMeans, with_trip}
 use Rattle.drive.specs.Positions.{is_position}
 use Rattle.profile.specs.Plans.{PlanMeans, plan_fault}
 use Rattle.profile.specs.Profiles.{ProfileMeans}
 use Rattle.script.specs.declared.line.BlendLine.{BlendLine}
-use Rattle.script.specs.declared.line.CutLine.{CutLine}
 use Rattle.script.specs.declared.line.Line.{Line}
 use Rattle.script.specs.declared.line.Line.TheVariants as line
 use Rattle.longbed.specs.declared.refusal.Refusal.{Refusal}
@@ -21,10 +19,6 @@ pub record TableMeans : Type 0 where
   pub profile : ProfileMeans
   pub begun : Bool
 
--- the cut that a line asks for
-abbrev pub cut_of : CutLine → Cut
-cut_of c = record { target = c.target; start = c.start; speed = c.speed; accel = c.accel; decel = c.decel }
-
 -- refused, and nothing changes
 abbrev pub Declined : TableMeans → Refusal → Result (Option Report) Refusal → TableMeans → Type 0
 Declined m why r m' = (r ≡ Err why) × (m' ≡ m)
@@ -35,7 +29,7 @@ Prepared m d r m' = (r ≡ Ok None) × (m' ≡ record { drive = d; profile = m.p
 
 -- the plan that a blend asks for
 abbrev pub plan_of : BlendLine → PlanMeans
-plan_of b = record { start = b.start; accel = b.accel; decel = b.decel; rows = take b.count b.rows }
+plan_of b = record { start = b.start; accel = b.rates.accel; decel = b.rates.decel; rows = b.rows }
 
 -- refused, and nothing moves; but a cut has come
 abbrev pub Stayed : TableMeans → Refusal → Result (Option Report) Refusal → TableMeans → Type 0
@@ -50,12 +44,12 @@ pub record Moving (verdict : Option CutFault) (plan : PlanMeans) (target : ℤ) 
 -- what a line makes of a table that means m, over a drive that goes at most g steps at once
 abbrev pub Taken : ℕ → TableMeans → Line → Result (Option Report) Refusal → TableMeans → Type 0
 Taken g m line.Blank r m' = (r ≡ Ok None) × (m' ≡ m)
-Taken g m (line.Bed drive profile) r m' = Declined m refusal.SecondBed r m'
+Taken g m (line.Bed bed) r m' = Declined m refusal.SecondBed r m'
 Taken g m (line.At p) r m' =
     MatchBool m.begun (Declined m refusal.TooLate r m')
     (MatchBool (is_position p) (Prepared m (record { place = p; tripped = m.drive.tripped }) r m') (Declined m refusal.NoPosition r m'))
 Taken g m line.Tripped r m' = MatchBool m.begun (Declined m refusal.TooLate r m') (Prepared m (with_trip m.drive true) r m')
-Taken g m (line.Cut c) r m' = Moving (judged g m.drive (cut_of c)) (planned m.drive (cut_of c)) c.target m r m'
+Taken g m (line.Cut c) r m' = Moving (judged g m.drive c) (planned m.drive c) c.target m r m'
 Taken g m (line.Blend b) r m' =
     MatchOption (plan_fault (plan_of b))
     (Moving (blend_judged g m.drive (plan_of b) b.direction) (plan_of b) (blend_end m.drive (plan_of b) b.direction) m r m')

@@ -2,7 +2,6 @@
 // With the argument --ticks it also prints the advance of every tick.
 #![tactic(auto)]
 
-mod motor;
 mod refusal;
 mod run;
 mod table;
@@ -11,7 +10,7 @@ mod tally;
 mod tests;
 mod ticker;
 
-use anyhow::anyhow;
+use anyhow::ensure;
 use run::run;
 use std::env;
 use std::io::Read;
@@ -21,9 +20,7 @@ use std::process::ExitCode;
 fn every_tick(rt: &HostRuntime) -> anyhow::Result<bool> {
     let mut shown = false;
     for word in env::args(rt)?.skip(1) {
-        if word.as_str() != "--ticks" {
-            return Err(anyhow!("usage: longbed [--ticks]"));
-        }
+        ensure!(word.as_str() == "--ticks", "usage: longbed [--ticks]");
         shown = true;
     }
     Ok(shown)

@@ -1,7 +1,10 @@
 // Why a line of a script is refused, in words for its writer.
+ghost use Rattle.std.specs.Prelude.{◌≡◌};
+ghost use Rattle.longbed.specs.declared.refusal.Refusal.TheVariants as refusal;
+
+use bed::fault::LineFault;
 use cut::fault::CutFault;
 use profile::fault::PlanFault;
-use script::line::LineFault;
 use std::fmt;
 
 #[derive(Clone, Copy, PartialEq, Eq, Debug)]
@@ -22,60 +25,44 @@ pub enum Refusal {
     Plan(PlanFault),
 }
 
-fn line_text(fault: LineFault) -> &'static str {
-    match fault {
-        LineFault::UnknownCommand => "unknown command (bed, at, tripped, cut or blend)",
-        LineFault::UnknownDrive => "unknown drive (pulse or phase)",
-        LineFault::UnknownProfile =>
-            "unknown profile (creep, ramp, or one of them after at most two smooth LENGTH)",
-        LineFault::UnknownDirection => "unknown direction (cw or ccw)",
-        LineFault::MissingWord => "a word is missing",
-        LineFault::ExtraWord => "a word too many",
-        LineFault::NotANumber => "not a number that can stand here",
+impl From<LineFault> for Refusal {
+    ghost from_gives = { λ fault r. r ≡ refusal.Line fault };
+
+    fn from(fault: LineFault) -> Refusal {
+        Refusal::Line(fault)
     }
 }
 
-fn cut_text(fault: CutFault) -> &'static str {
-    match fault {
-        CutFault::Target => "the target is no position (-8388607 to 8388607)",
-        CutFault::Start =>
-            "the starting speed is out of range (1 to 1000 times the drive's steps a tick)",
-        CutFault::Speed =>
-            "the speed is out of range (starting speed to 1000 times the drive's steps a tick)",
-        CutFault::Acceleration => "the acceleration is out of range (1 to 5000)",
-        CutFault::Deceleration => "the deceleration is out of range (1 to 5000)",
-        CutFault::Tripped => "the drive is tripped",
-        CutFault::NoStep => "the drive already stands at the target",
+impl From<CutFault> for Refusal {
+    ghost from_gives = { λ fault r. r ≡ refusal.Cut fault };
+
+    fn from(fault: CutFault) -> Refusal {
+        Refusal::Cut(fault)
     }
 }
 
-fn plan_text(fault: PlanFault) -> &'static str {
-    match fault {
-        PlanFault::Start => "the starting speed is 0",
-        PlanFault::Acceleration => "the acceleration is out of range (1 to 5000)",
-        PlanFault::Deceleration => "the deceleration is out of range (1 to 5000)",
-        PlanFault::RowCount => "a blend has 1 to 16 rows",
-        PlanFault::Row => "a row has no step, or a speed out of range (starting speed to 200000)",
-        PlanFault::Length => "the rows have more than 16777214 steps",
+impl From<PlanFault> for Refusal {
+    ghost from_gives = { λ fault r. r ≡ refusal.Plan fault };
+
+    fn from(fault: PlanFault) -> Refusal {
+        Refusal::Plan(fault)
     }
 }
 
-impl Refusal {
-    pub fn text(self) -> &'static str {
-        match self {
-            Refusal::Line(fault) => line_text(fault),
-            Refusal::NoBed => "no bed is named yet",
-            Refusal::SecondBed => "the bed is named already",
-            Refusal::TooLate => "only before the first cut",
-            Refusal::NoPosition => "the place is no position (-8388607 to 8388607)",
-            Refusal::Cut(fault) => cut_text(fault),
-            Refusal::Plan(fault) => plan_text(fault),
-        }
-    }
-}
-
+// By hand, since an unknown command is told with the commands of this program.
 impl fmt::Display for Refusal {
     fn fmt<W: fmt::Write>(&self, f: &mut fmt::Formatter<W>) -> fmt::Result {
-        f.write_str(self.text())
+        match self {
+            Refusal::Line(LineFault::UnknownCommand) => {
+                f.write_str("unknown command (bed, at, tripped, cut or blend)")
+            }
+            Refusal::Line(why) => write!(f, "{why}"),
+            Refusal::NoBed => f.write_str("no bed is named yet"),
+            Refusal::SecondBed => f.write_str("the bed is named already"),
+            Refusal::TooLate => f.write_str("only before the first cut"),
+            Refusal::NoPosition => f.write_str("the place is no position (-8388607 to 8388607)"),
+            Refusal::Cut(why) => write!(f, "{why}"),
+            Refusal::Plan(why) => write!(f, "{why}"),
+        }
     }
 }

@@ -1,27 +1,29 @@
 // Runs a script and prints what it did: cuts on the standard output, refused lines on the standard error.
-ghost use Rattle.std.specs.Prelude.{◌≡◌, Err, MatchResult};
+ghost use Rattle.std.specs.Prelude.{◌≡◌, ⊤, Err, MatchResult};
 ghost use Rattle.script.specs.Lines.{line_of};
 ghost use Rattle.longbed.specs.TableMeaning.{table_means};
 ghost use Rattle.longbed.specs.Tables.{Taken};
 
-use crate::motor::Motor;
 use crate::refusal::Refusal;
 use crate::table::Table;
 use crate::tally::Tally;
 use crate::ticker::Ticker;
+use bed::kind::BedKind;
+use beds::choice::{OnBed, on_bed};
+use beds::motor::Motor;
 use cut::order::Report;
 use cut::watch::Watch;
-use drive::phase::PhaseDrive;
-use drive::pulse::PulseDrive;
 use drive::traits::Drive;
-use profile::creep::Creep;
 use profile::traits::Profile;
-use ramp::ramp::Ramp;
-use script::line::{BaseProfile, DriveKind, Line, ProfileKind};
-use script::lines::Lines;
+use script::line::Line;
 use script::read::read_line;
-use smoothing::smoothed::Smoothed;
 use std::io;
+use std::iter::Zip;
+use std::ops::RangeFrom;
+use text::lines::Lines;
+
+// The lines of a script with their numbers, from 1 on.
+type Numbered<'a> = Zip<RangeFrom<u64>, Lines<'a>>;
 
 // Takes a line as it was written.
 pub fn take_text<D: Motor, P: Profile, W: Watch>(
@@ -30,13 +32,10 @@ pub fn take_text<D: Motor, P: Profile, W: Watch>(
     watch: &mut W,
 ) -> Result<Option<Report>, Refusal>
     ensures { MatchResult (line_of text.now)
-        (λ line. Taken D.Drive.reach (table_means D.Drive.means P.Profile.means table.old) line result (table_means D.Drive.means P.Profile.means table.new))
+        (λ line. Taken D.Drive.G (table_means D.Drive.means P.Profile.means table.old) line result (table_means D.Drive.means P.Profile.means table.new))
         (λ fault. (result ≡ Err (Refusal.Line fault)) × (table.new ≡ table.old)) }
 {
-    match read_line(text) {
-        Ok(line) => table.take(line, watch),
-        Err(fault) => Err(Refusal::Line(fault)),
-    }
+    table.take(read_line(text)?, watch)
 }
 
 fn print_coils<D: Motor>(rt: &HostRuntime, drive: &D) -> io::Result<()> {
@@ -61,6 +60,10 @@ fn print_cut<D: Motor>(rt: &HostRuntime, number: u64, report: Report, drive: &D)
     print_coils(rt, drive)
 }
 
+fn print_refusal(rt: &HostRuntime, number: u64, refusal: Refusal) -> io::Result<()> {
+    eprintln!(rt; "line {number}: {refusal}")
+}
+
 // Tells what a line came to; one that only prepares the bed is not told.
 fn print_taken<D: Motor>(
     rt: &HostRuntime,
@@ -71,7 +74,7 @@ fn print_taken<D: Motor>(
     match taken {
         Ok(None) => Ok(()),
         Ok(Some(report)) => print_cut(rt, number, report, drive),
-        Err(refusal) => eprintln!(rt; "line {number}: {refusal}"),
+        Err(refusal) => print_refusal(rt, number, refusal),
     }
 }
 
@@ -94,99 +97,77 @@ fn print_end<D: Motor>(rt: &HostRuntime, tally: Tally, drive: &D) -> io::Result<
 // What is left of a script after the line that names the bed, and how to show it.
 #[derive(Drop)]
 struct Rest<'a> {
-    lines: Lines<'a>,
-    number: u64,
+    rt: &'a HostRuntime,
+    lines: Numbered<'a>,
+    tally: Tally,
     every_tick: bool,
 }
 
-// Takes the rest of a script, and tells whether no line was refused.
-fn run_bed<D: Motor + Drop, P: Profile + Drop>(
-    rt: &HostRuntime,
-    drive: D,
-    profile: P,
-    rest: Rest,
-) -> io::Result<bool> {
-    let Rest {
-        mut lines,
-        mut number,
-        every_tick,
-    } = rest;
-    let mut table = Table::new(drive, profile);
-    let mut tally = Tally::new();
-    let mut ticker = Ticker::new(rt, every_tick);
-    while let Some(text) = lines.next_line() {
-        number = number.saturating_add(1);
-        ticker.restart();
-        let taken = take_text(&mut table, text, &mut ticker);
-        tally.count(taken);
-        print_taken(rt, number, taken, table.drive())?;
-    }
-    print_end(rt, tally, table.drive())?;
-    Ok(tally.refused == 0 && !ticker.has_failed())
-}
+impl OnBed for Rest<'_> {
+    type Output = io::Result<bool>;
 
-// The same over a drive, with the profile that the bed names.
-fn run_profile<D: Motor + Drop>(
-    rt: &HostRuntime,
-    drive: D,
-    profile: ProfileKind,
-    rest: Rest,
-) -> io::Result<bool> {
-    match profile {
-        ProfileKind::Plain(BaseProfile::Creep) => run_bed(rt, drive, Creep::new(), rest),
-        ProfileKind::Plain(BaseProfile::Ramp) => run_bed(rt, drive, Ramp::new(), rest),
-        ProfileKind::Smooth(length, BaseProfile::Creep) => run_bed(
+    // No contract says what is printed.
+    ghost Comes = { λ _ _ _ _ _. ⊤ };
+
+    // Takes the rest of a script, and tells whether no line was refused.
+    fn run<D: Motor + Drop, P: Profile + Drop>(self, drive: D, profile: P) -> io::Result<bool> {
+        let Rest {
             rt,
-            drive,
-            smooth(Creep::new(), length),
-            rest,
-        ),
-        ProfileKind::Smooth(length, BaseProfile::Ramp) => run_bed(
-            rt,
-            drive,
-            smooth(Ramp::new(), length),
-            rest,
-        ),
-        ProfileKind::SmoothTwice(outer, inner, BaseProfile::Creep) => {
-            run_bed(rt, drive, smooth(smooth(Creep::new(), inner), outer), rest)
+            lines,
+            mut tally,
+            every_tick,
+        } = self;
+        let mut table = Table::new(drive, profile);
+        let mut ticker = Ticker::new(every_tick.then_some(rt));
+        for (number, text) in lines {
+            ticker.restart();
+            let taken = take_text(&mut table, text, &mut ticker);
+            tally.count(taken);
+            print_taken(rt, number, taken, table.drive())?;
         }
-        ProfileKind::SmoothTwice(outer, inner, BaseProfile::Ramp) => {
-            run_bed(rt, drive, smooth(smooth(Ramp::new(), inner), outer), rest)
-        }
+        print_end(rt, tally, table.drive())?;
+        Ok(tally.refused == 0 && !ticker.has_failed())
     }
 }
 
-fn smooth<P: Profile>(below: P, length: u32) -> Smoothed<P> {
-    Smoothed::new(below, length as usize)
+// The first bed that a line names. The lines before it that are not blank are refused.
+fn find_bed(
+    rt: &HostRuntime,
+    lines: &mut Numbered,
+    tally: &mut Tally,
+) -> io::Result<Option<BedKind>> {
+    for (number, text) in lines {
+        let refusal = match read_line(text) {
+            Ok(Line::Blank) => continue,
+            Ok(Line::Bed(bed)) => return Ok(Some(bed)),
+            Ok(_) => Refusal::NoBed,
+            Err(fault) => Refusal::from(fault),
+        };
+        tally.count(Err(refusal));
+        print_refusal(rt, number, refusal)?;
+    }
+    Ok(None)
 }
 
 // Runs a script from its first line on, and tells whether no line was refused. Every tick is shown where that is asked for.
 pub fn run(rt: &HostRuntime, script: &[u8], every_tick: bool) -> io::Result<bool> {
-    let mut lines = Lines::of(script);
-    let mut number: u64 = 0;
-    let mut fine = true;
-    while let Some(text) = lines.next_line() {
-        number = number.saturating_add(1);
-        let refusal = match read_line(text) {
-            Ok(Line::Blank) => continue,
-            Ok(Line::Bed(kind, profile)) => {
-                let rest = Rest {
+    let mut lines = (1u64..).zip(Lines::of(script));
+    let mut tally = Tally::default();
+    match find_bed(rt, &mut lines, &mut tally)? {
+        Some(bed) => {
+            on_bed(
+                bed,
+                Rest {
+                    rt,
                     lines,
-                    number,
+                    tally,
                     every_tick,
-                };
-                let all = match kind {
-                    DriveKind::Pulse => run_profile(rt, PulseDrive::new(), profile, rest)?,
-                    DriveKind::Phase => run_profile(rt, PhaseDrive::new(), profile, rest)?,
-                };
-                return Ok(all && fine);
-            }
-            Ok(_) => Refusal::NoBed,
-            Err(fault) => Refusal::Line(fault),
-        };
-        eprintln!(rt; "line {number}: {refusal}")?;
-        fine = false;
+                },
+            )
+        }
+        None => {
+            eprintln!(rt; "the script names no bed")?;
+            Ok(false)
+        }
     }
-    eprintln!(rt; "the script names no bed")?;
-    Ok(false)
 }

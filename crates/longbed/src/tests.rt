@@ -2,6 +2,7 @@
 use crate::refusal::Refusal;
 use crate::run::{run, take_text};
 use crate::table::Table;
+use bed::fault::LineFault;
 use cut::fault::CutFault;
 use cut::order::Report;
 use cut::watch::Unwatched;
@@ -10,7 +11,6 @@ use drive::traits::Drive;
 use profile::creep::Creep;
 use profile::fault::PlanFault;
 use ramp::ramp::Ramp;
-use script::line::LineFault;
 use std::test::Fail;
 
 #[test]

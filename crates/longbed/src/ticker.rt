@@ -3,18 +3,18 @@ use cut::watch::Watch;
 
 #[derive(Drop)]
 pub struct Ticker<'a> {
-    rt: &'a HostRuntime,
-    on: bool,
+    // Where the ticks are printed, if they are.
+    out: Option<&'a HostRuntime>,
     tick: u64,
-    // Whether a line could not be written.
+    // Whether a line could not be written. No `io::Result`: to tell the error would change what
+    // the program writes.
     failed: bool,
 }
 
 impl<'a> Ticker<'a> {
-    pub fn new(rt: &'a HostRuntime, on: bool) -> Ticker<'a> {
+    pub fn new(out: Option<&'a HostRuntime>) -> Ticker<'a> {
         Ticker {
-            rt,
-            on,
+            out,
             tick: 0,
             failed: false,
         }
@@ -33,9 +33,9 @@ impl<'a> Ticker<'a> {
 impl Watch for Ticker<'_> {
     fn tell(&mut self, advance: u32) {
         self.tick = self.tick.saturating_add(1);
-        if self.on {
+        if let Some(rt) = self.out {
             let tick = self.tick;
-            if println!(self.rt; "tick {tick} {advance}").is_err() {
+            if println!(rt; "tick {tick} {advance}").is_err() {
                 self.failed = true;
             }
         }

@@ -2,8 +2,7 @@
 use Rattle.std.specs.Prelude.{true, false, cond, ℤ, pos, Ok, Err, Result}
 use Rattle.drive.specs.Positions.{is_position}
 use Rattle.calls.specs.Lines.{LineMeans, Blank, Bed, At, Tripped, Setup, Block, Event, Tick}
-use Rattle.calls.specs.declared.line.DriveKind.{DriveKind}
-use Rattle.calls.specs.declared.line.ProfileKind.{ProfileKind}
+use Rattle.bed.specs.declared.kind.BedKind.{BedKind}
 use Rattle.longbed_calls.specs.declared.order.OrderFault.{OrderFault}
 use Rattle.longbed_calls.specs.declared.order.OrderFault.TheVariants.{NoBed, SecondBed, TooLate, NoPosition}
 use Rattle.longbed_calls.specs.declared.order.Stage.{Stage}
@@ -11,21 +10,21 @@ use Rattle.longbed_calls.specs.declared.order.Stage.TheVariants.{Unnamed, Prepar
 use Rattle.longbed_calls.specs.declared.order.Start.{Start}
 
 -- a bed whose drive stands at 0, not tripped
-abbrev pub start_of : DriveKind → ProfileKind → Start
-start_of drive profile = record { drive = drive; profile = profile; place = pos 0; tripped = false }
+abbrev pub start_of : BedKind → Start
+start_of bed = record { bed = bed; place = pos 0; tripped = false }
 
 -- the same bed, with its drive at a position
 abbrev pub start_at : Start → ℤ → Result Stage OrderFault
-start_at s p = cond (is_position p) (Ok (Preparing (record { drive = s.drive; profile = s.profile; place = p; tripped = s.tripped }))) (Err NoPosition)
+start_at s p = cond (is_position p) (Ok (Preparing (record { bed = s.bed; place = p; tripped = s.tripped }))) (Err NoPosition)
 
 -- the same bed, with its drive tripped
 abbrev pub start_tripped : Start → Start
-start_tripped s = record { drive = s.drive; profile = s.profile; place = s.place; tripped = true }
+start_tripped s = record { bed = s.bed; place = s.place; tripped = true }
 
 -- before the bed is named, nothing else may stand
 abbrev pub after_unnamed : LineMeans → Result Stage OrderFault
 after_unnamed Blank = Ok Unnamed
-after_unnamed (Bed drive profile) = Ok (Preparing (start_of drive profile))
+after_unnamed (Bed bed) = Ok (Preparing (start_of bed))
 after_unnamed (At p) = Err NoBed
 after_unnamed Tripped = Err NoBed
 after_unnamed (Setup v) = Err NoBed
@@ -36,7 +35,7 @@ after_unnamed (Tick n) = Err NoBed
 -- before the first call, the last `at` counts
 abbrev pub after_preparing : Start → LineMeans → Result Stage OrderFault
 after_preparing s Blank = Ok (Preparing s)
-after_preparing s (Bed drive profile) = Err SecondBed
+after_preparing s (Bed bed) = Err SecondBed
 after_preparing s (At p) = start_at s p
 after_preparing s Tripped = Ok (Preparing (start_tripped s))
 after_preparing s (Setup v) = Ok (Calling s)
@@ -47,7 +46,7 @@ after_preparing s (Tick n) = Ok (Calling s)
 -- from the first call on, only calls
 abbrev pub after_calling : Start → LineMeans → Result Stage OrderFault
 after_calling s Blank = Ok (Calling s)
-after_calling s (Bed drive profile) = Err SecondBed
+after_calling s (Bed bed) = Err SecondBed
 after_calling s (At p) = Err TooLate
 after_calling s Tripped = Err TooLate
 after_calling s (Setup v) = Ok (Calling s)

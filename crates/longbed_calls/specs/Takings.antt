@@ -2,7 +2,7 @@
 use Rattle.std.specs.Prelude.{◌≡◌, Ok, Err, Result}
 use Rattle.calls.specs.Lines.{LineMeans}
 use Rattle.calls.specs.Readings.{line_means}
-use Rattle.calls.specs.declared.fault.LineFault.{LineFault}
+use Rattle.bed.specs.declared.fault.LineFault.{LineFault}
 use Rattle.calls.specs.declared.fault.ReadFault.TheVariants as fault
 use Rattle.calls.specs.declared.line.Line.{Line}
 use Rattle.longbed_calls.specs.Orders.{stage_after}

@@ -2,7 +2,6 @@
 // Where a line cannot be read nothing is called, and the program ends with status 1.
 #![tactic(auto)]
 
-mod motor;
 mod order;
 mod prepare;
 mod read;

@@ -3,14 +3,15 @@ ghost use Rattle.std.specs.Prelude.{◌≡◌};
 ghost use Rattle.longbed_calls.specs.Orders.{start_at, stage_after};
 ghost use Rattle.calls.specs.Readings.{line_means};
 
-use calls::line::{DriveKind, Line, ProfileKind};
+use bed::kind::BedKind;
+use calls::line::Line;
 use drive::position::is_position;
+use thiserror::Error;
 
 // The bed, and how its drive stands before the first call.
 #[derive(Clone, Copy, PartialEq, Eq, Debug)]
 pub struct Start {
-    pub drive: DriveKind,
-    pub profile: ProfileKind,
+    pub bed: BedKind,
     pub place: i32,
     pub tripped: bool,
 }
@@ -24,11 +25,15 @@ pub enum Stage {
 }
 
 // Why a line cannot stand where it does.
-#[derive(Clone, Copy, PartialEq, Eq, Debug)]
+#[derive(Clone, Copy, PartialEq, Eq, Debug, Error)]
 pub enum OrderFault {
+    #[error("no bed is named yet")]
     NoBed,
+    #[error("the bed is named already")]
     SecondBed,
+    #[error("only before the first call")]
     TooLate,
+    #[error("the place is no position (-8388607 to 8388607)")]
     NoPosition,
 }
 
@@ -50,17 +55,15 @@ impl Stage {
     {
         match (self, line) {
             (stage, Line::Blank) => Ok(stage),
-            (Stage::Unnamed, Line::Bed(drive, profile)) => {
-                let start = Start {
-                    drive: *drive,
-                    profile: *profile,
+            (Stage::Unnamed, Line::Bed(bed)) => {
+                Ok(Stage::Preparing(Start {
+                    bed: *bed,
                     place: 0,
                     tripped: false,
-                };
-                Ok(Stage::Preparing(start))
+                }))
             }
             (Stage::Unnamed, _) => Err(OrderFault::NoBed),
-            (_, Line::Bed(_, _)) => Err(OrderFault::SecondBed),
+            (_, Line::Bed(_)) => Err(OrderFault::SecondBed),
             (Stage::Preparing(start), Line::At(place)) => start_at(start, *place),
             (Stage::Preparing(start), Line::Tripped) => {
                 Ok(Stage::Preparing(Start {

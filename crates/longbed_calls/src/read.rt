@@ -27,34 +27,28 @@ pub struct Script<'a> {
 pub fn take_text(heap: Global, stage: Stage, text: &[u8]) -> Result<(Stage, Line), Unread>
     ensures { Taken stage (line_of text.now) result }
 {
-    let line = match read_line(heap, text) {
-        Ok(line) => line,
-        Err(fault) => return Err(Unread::Text(fault)),
-    };
-    match stage.after(&line) {
-        Ok(after) => Ok((after, line)),
-        Err(fault) => Err(Unread::Order(fault)),
-    }
+    let line = read_line(heap, text)?;
+    let after = stage.after(&line)?;
+    Ok((after, line))
 }
 
 // The script, if every line can be read and one names a bed; each line that cannot be read is told.
 pub fn read_script<'a>(rt: &HostRuntime, script: &'a [u8]) -> anyhow::Result<Option<Script<'a>>> {
     let heap = rt.alloc();
-    let mut lines = Lines::of(script);
-    let mut number: u64 = 0;
     let mut stage = Stage::Unnamed;
-    let mut entries = Vec::new(heap);
-    let mut fine = true;
-    while let Some(text) = lines.next_line() {
-        number = number.saturating_add(1);
+    // None from the first line on that cannot be read.
+    let mut entries = Some(Vec::new(heap));
+    for (number, text) in (1u64..).zip(Lines::of(script)) {
         match take_text(heap, stage, text) {
             Ok((after, line)) => {
                 stage = after;
-                entries.push(Entry { text, line })?;
+                if let Some(entries) = &mut entries {
+                    entries.push(Entry { text, line })?;
+                }
             }
             Err(unread) => {
                 eprintln!(rt; "line {number}: {unread}")?;
-                fine = false;
+                entries = None;
             }
         }
     }
@@ -64,11 +58,7 @@ pub fn read_script<'a>(rt: &HostRuntime, script: &'a [u8]) -> anyhow::Result<Opt
             Ok(None)
         }
         Stage::Preparing(start) | Stage::Calling(start) => {
-            if fine {
-                Ok(Some(Script { start, entries }))
-            } else {
-                Ok(None)
-            }
+            Ok(entries.map(|entries| Script { start, entries }))
         }
     }
 }

@@ -1,18 +1,15 @@
 // Makes the calls of a script on an axis over the bed that it names.
-use crate::motor::Motor;
+ghost use Rattle.std.specs.Prelude.{⊤};
+
 use crate::prepare::prepare;
 use crate::read::{Entry, Script};
 use crate::show::{print_end, print_words};
 use axis::axis::Axis;
+use beds::choice::{OnBed, on_bed};
+use beds::motor::Motor;
 use block::refusal::answer_number;
-use calls::line::{BaseProfile, DriveKind, Line, ProfileKind};
-use drive::phase::PhaseDrive;
-use drive::pulse::PulseDrive;
-use drive::traits::Drive;
-use profile::creep::Creep;
+use calls::line::Line;
 use profile::traits::Profile;
-use ramp::ramp::Ramp;
-use smoothing::smoothed::Smoothed;
 use std::io;
 
 fn run_ticks<D: Motor, P: Profile>(
@@ -49,56 +46,34 @@ fn run_entry<D: Motor, P: Profile>(
             println!(rt; "event {code}: {answer}")
         }
         Line::Tick(count) => run_ticks(rt, axis, *count),
-        Line::Blank | Line::Bed(_, _) | Line::At(_) | Line::Tripped => Ok(()),
+        Line::Blank | Line::Bed(_) | Line::At(_) | Line::Tripped => Ok(()),
     }
 }
 
-fn run_axis<D: Motor + Drop, P: Profile + Drop>(
-    rt: &HostRuntime,
-    mut drive: D,
-    profile: P,
-    script: &Script,
-) -> io::Result<()> {
-    prepare(&mut drive, script.start);
-    let mut axis = Axis::power_up(drive, profile);
-    for entry in script.entries.iter() {
-        run_entry(rt, &mut axis, entry)?;
-    }
-    print_end(rt, &axis)
+// A script that is to be run.
+#[derive(Drop)]
+struct Calls<'a> {
+    rt: &'a HostRuntime,
+    script: &'a Script<'a>,
 }
 
-fn smooth<P: Profile>(below: P, length: u32) -> Smoothed<P> {
-    Smoothed::new(below, length as usize)
-}
+impl OnBed for Calls<'_> {
+    type Output = io::Result<()>;
 
-// The same over a drive, with the profile that the bed names.
-fn run_drive<D: Motor + Drop>(rt: &HostRuntime, drive: D, script: &Script) -> io::Result<()> {
-    match script.start.profile {
-        ProfileKind::Plain(BaseProfile::Creep) => run_axis(rt, drive, Creep::new(), script),
-        ProfileKind::Plain(BaseProfile::Ramp) => run_axis(rt, drive, Ramp::new(), script),
-        ProfileKind::Smooth(length, BaseProfile::Creep) => {
-            run_axis(rt, drive, smooth(Creep::new(), length), script)
+    // No contract says what is printed.
+    ghost Comes = { λ _ _ _ _ _. ⊤ };
+
+    fn run<D: Motor + Drop, P: Profile + Drop>(self, mut drive: D, profile: P) -> io::Result<()> {
+        let Calls { rt, script } = self;
+        prepare(&mut drive, script.start);
+        let mut axis = Axis::power_up(drive, profile);
+        for entry in script.entries.iter() {
+            run_entry(rt, &mut axis, entry)?;
         }
-        ProfileKind::Smooth(length, BaseProfile::Ramp) => {
-            run_axis(rt, drive, smooth(Ramp::new(), length), script)
-        }
-        ProfileKind::SmoothTwice(outer, inner, BaseProfile::Creep) => {
-            run_axis(
-                rt,
-                drive,
-                smooth(smooth(Creep::new(), inner), outer),
-                script,
-            )
-        }
-        ProfileKind::SmoothTwice(outer, inner, BaseProfile::Ramp) => {
-            run_axis(rt, drive, smooth(smooth(Ramp::new(), inner), outer), script)
-        }
+        print_end(rt, &axis)
     }
 }
 
 pub fn run(rt: &HostRuntime, script: &Script) -> io::Result<()> {
-    match script.start.drive {
-        DriveKind::Pulse => run_drive(rt, PulseDrive::new(), script),
-        DriveKind::Phase => run_drive(rt, PhaseDrive::new(), script),
-    }
+    on_bed(script.start.bed, Calls { rt, script })
 }

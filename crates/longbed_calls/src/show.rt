@@ -1,7 +1,7 @@
 // What the program prints of an axis.
-use crate::motor::Motor;
 use axis::axis::Axis;
 use axis::flags::Flags;
+use beds::motor::Motor;
 use drive::traits::Drive;
 use profile::traits::Profile;
 use std::io;
@@ -10,12 +10,11 @@ use text::text::{Words, uncommented};
 // The words of a line as they were written, with one space between them.
 pub fn print_words(rt: &HostRuntime, text: &[u8]) -> io::Result<()> {
     let mut words = Words::of(uncommented(text));
-    let mut first = true;
-    while let Some(word) = words.next_word() {
-        if !first {
-            print!(rt; " ")?;
-        }
-        first = false;
+    if let Some(word) = words.next() {
+        rt.write_all(word)?;
+    }
+    for word in words {
+        print!(rt; " ")?;
         rt.write_all(word)?;
     }
     Ok(())
@@ -23,7 +22,6 @@ pub fn print_words(rt: &HostRuntime, text: &[u8]) -> io::Result<()> {
 
 fn print_flags(rt: &HostRuntime, flags: Flags) -> io::Result<()> {
     print!(rt; "= flags")?;
-    let mut none = true;
     for (set, name) in [
         (flags.configuration, "Configuration_Error"),
         (flags.command, "Command_Error"),
@@ -33,10 +31,9 @@ fn print_flags(rt: &HostRuntime, flags: Flags) -> io::Result<()> {
     ] {
         if set {
             print!(rt; " {name}")?;
-            none = false;
         }
     }
-    if none {
+    if flags == Flags::default() {
         print!(rt; " none")?;
     }
     println!(rt)

@@ -1,6 +1,10 @@
 // Why a line of a script cannot be read, in words for its writer.
+ghost use Rattle.std.specs.Prelude.{◌≡◌};
+ghost use Rattle.longbed_calls.specs.declared.unread.Unread.TheVariants as unread;
+
 use crate::order::OrderFault;
-use calls::fault::{LineFault, ReadFault};
+use bed::fault::LineFault;
+use calls::fault::ReadFault;
 use std::fmt;
 
 #[derive(Clone, Copy, PartialEq, Eq, Debug)]
@@ -9,34 +13,31 @@ pub enum Unread {
     Order(OrderFault),
 }
 
-fn line_text(fault: LineFault) -> &'static str {
-    match fault {
-        LineFault::UnknownCommand =>
-            "unknown command (bed, at, tripped, setup, block, event or tick)",
-        LineFault::UnknownDrive => "unknown drive (pulse or phase)",
-        LineFault::UnknownProfile =>
-            "unknown profile (creep, ramp, or one of them after at most two smooth LENGTH)",
-        LineFault::MissingWord => "a word is missing",
-        LineFault::ExtraWord => "a word too many",
-        LineFault::NotANumber => "not a number that can stand here",
+impl From<ReadFault> for Unread {
+    ghost from_gives = { λ fault r. r ≡ unread.Text fault };
+
+    fn from(fault: ReadFault) -> Unread {
+        Unread::Text(fault)
     }
 }
 
-fn order_text(fault: OrderFault) -> &'static str {
-    match fault {
-        OrderFault::NoBed => "no bed is named yet",
-        OrderFault::SecondBed => "the bed is named already",
-        OrderFault::TooLate => "only before the first call",
-        OrderFault::NoPosition => "the place is no position (-8388607 to 8388607)",
+impl From<OrderFault> for Unread {
+    ghost from_gives = { λ fault r. r ≡ unread.Order fault };
+
+    fn from(fault: OrderFault) -> Unread {
+        Unread::Order(fault)
     }
 }
 
+// By hand, since an unknown command is told with the commands of this program.
 impl fmt::Display for Unread {
     fn fmt<W: fmt::Write>(&self, f: &mut fmt::Formatter<W>) -> fmt::Result {
-        f.write_str(match self {
-            Unread::Text(ReadFault::Line(fault)) => line_text(*fault),
-            Unread::Text(ReadFault::NoMemory) => "no memory for it",
-            Unread::Order(fault) => order_text(*fault),
-        })
+        match self {
+            Unread::Text(ReadFault::Line(LineFault::UnknownCommand)) => {
+                f.write_str("unknown command (bed, at, tripped, setup, block, event or tick)")
+            }
+            Unread::Text(why) => write!(f, "{why}"),
+            Unread::Order(why) => write!(f, "{why}"),
+        }
     }
 }

@@ -5,15 +5,15 @@ ghost use Rattle.longbed.specs.Tables.{Taken};
 ghost use Rattle.script.specs.declared.line.Line.TheVariants as line;
 
 use super::Table;
-use crate::motor::Motor;
 use crate::refusal::Refusal;
+use beds::motor::Motor;
 use cut::make::{make_blend, make_cut};
 use cut::order::{Cut, Report};
 use cut::watch::Watch;
 use drive::traits::Drive;
 use profile::plan::Plan;
 use profile::traits::Profile;
-use script::line::{BlendLine, CutLine, Line};
+use script::line::{BlendLine, Line};
 
 impl<D: Motor, P: Profile> Table<D, P> {
     pub fn new(drive: D, profile: P) -> Table<D, P>
@@ -34,20 +34,18 @@ impl<D: Motor, P: Profile> Table<D, P> {
 
     // The drive's first place.
     fn stand_at(&mut self, place: i32) -> Result<Option<Report>, Refusal>
-        ensures { Taken D.Drive.reach (table_means D.Drive.means P.Profile.means self.old) (line.At place) result (table_means D.Drive.means P.Profile.means self.new) }
+        ensures { Taken D.Drive.G (table_means D.Drive.means P.Profile.means self.old) (line.At place) result (table_means D.Drive.means P.Profile.means self.new) }
     {
         if self.begun {
             return Err(Refusal::TooLate);
         }
-        match self.drive.set(place) {
-            Ok(()) => Ok(None),
-            Err(_) => Err(Refusal::NoPosition),
-        }
+        self.drive.set(place).or(Err(Refusal::NoPosition))?;
+        Ok(None)
     }
 
     // The drive starts tripped.
     fn start_tripped(&mut self) -> Result<Option<Report>, Refusal>
-        ensures { Taken D.Drive.reach (table_means D.Drive.means P.Profile.means self.old) line.Tripped result (table_means D.Drive.means P.Profile.means self.new) }
+        ensures { Taken D.Drive.G (table_means D.Drive.means P.Profile.means self.old) line.Tripped result (table_means D.Drive.means P.Profile.means self.new) }
     {
         if self.begun {
             return Err(Refusal::TooLate);
@@ -56,21 +54,12 @@ impl<D: Motor, P: Profile> Table<D, P> {
         Ok(None)
     }
 
-    fn cut<W: Watch>(&mut self, asked: CutLine, watch: &mut W) -> Result<Option<Report>, Refusal>
-        ensures { Taken D.Drive.reach (table_means D.Drive.means P.Profile.means self.old) (line.Cut asked) result (table_means D.Drive.means P.Profile.means self.new) }
+    fn cut<W: Watch>(&mut self, asked: Cut, watch: &mut W) -> Result<Option<Report>, Refusal>
+        ensures { Taken D.Drive.G (table_means D.Drive.means P.Profile.means self.old) (line.Cut asked) result (table_means D.Drive.means P.Profile.means self.new) }
     {
         self.begun = true;
-        let cut = Cut {
-            target: asked.target,
-            start: asked.start,
-            speed: asked.speed,
-            accel: asked.accel,
-            decel: asked.decel,
-        };
-        match make_cut(&mut self.drive, &mut self.profile, cut, watch) {
-            Ok(report) => Ok(Some(report)),
-            Err(fault) => Err(Refusal::Cut(fault)),
-        }
+        let report = make_cut(&mut self.drive, &mut self.profile, asked, watch)?;
+        Ok(Some(report))
     }
 
     fn blend<W: Watch>(
@@ -78,32 +67,27 @@ impl<D: Motor, P: Profile> Table<D, P> {
         asked: BlendLine,
         watch: &mut W,
     ) -> Result<Option<Report>, Refusal>
-        ensures { Taken D.Drive.reach (table_means D.Drive.means P.Profile.means self.old) (line.Blend asked) result (table_means D.Drive.means P.Profile.means self.new) }
+        ensures { Taken D.Drive.G (table_means D.Drive.means P.Profile.means self.old) (line.Blend asked) result (table_means D.Drive.means P.Profile.means self.new) }
     {
         self.begun = true;
-        let plan = match Plan::new(asked.start, asked.accel, asked.decel, asked.listed()) {
-            Ok(plan) => plan,
-            Err(fault) => return Err(Refusal::Plan(fault)),
-        };
-        match make_blend(
+        let plan = Plan::new(asked.start, asked.rates, asked.listed())?;
+        let report = make_blend(
             &mut self.drive,
             &mut self.profile,
             plan,
             asked.direction,
             watch,
-        ) {
-            Ok(report) => Ok(Some(report)),
-            Err(fault) => Err(Refusal::Cut(fault)),
-        }
+        )?;
+        Ok(Some(report))
     }
 
     // Takes one line; a cut is answered by its report.
     pub fn take<W: Watch>(&mut self, line: Line, watch: &mut W) -> Result<Option<Report>, Refusal>
-        ensures { Taken D.Drive.reach (table_means D.Drive.means P.Profile.means self.old) line result (table_means D.Drive.means P.Profile.means self.new) }
+        ensures { Taken D.Drive.G (table_means D.Drive.means P.Profile.means self.old) line result (table_means D.Drive.means P.Profile.means self.new) }
     {
         match line {
             Line::Blank => Ok(None),
-            Line::Bed(_, _) => Err(Refusal::SecondBed),
+            Line::Bed(_) => Err(Refusal::SecondBed),
             Line::At(place) => self.stand_at(place),
             Line::Tripped => self.start_tripped(),
             Line::Cut(cut) => self.cut(cut, watch),

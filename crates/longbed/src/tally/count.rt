@@ -5,19 +5,8 @@ ghost use Rattle.longbed.specs.Tallies.{counted};
 use super::Tally;
 use crate::refusal::Refusal;
 use cut::order::Report;
-use drive::position::distance;
 
 impl Tally {
-    pub fn new() -> Tally
-        ensures { result ≡ record { refused = 0; asked = 0; arrived = 0 } }
-    {
-        Tally {
-            refused: 0,
-            asked: 0,
-            arrived: 0,
-        }
-    }
-
     // Counts what a line came to.
     pub fn count(&mut self, taken: Result<Option<Report>, Refusal>)
         ensures { self.new ≡ counted self.old taken }
@@ -26,7 +15,7 @@ impl Tally {
             Ok(None) => {}
             Ok(Some(report)) => {
                 self.asked = self.asked.saturating_add(1);
-                if distance(report.to, report.target) == 0 {
+                if report.to == report.target {
                     self.arrived = self.arrived.saturating_add(1);
                 }
             }
