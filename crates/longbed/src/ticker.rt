@@ -1,4 +1,6 @@
 // Prints the advance of every tick, for a reader who wants to plot it.
+ghost use Rattle.std.specs.Prelude.{◌≡◌, false};
+
 use cut::watch::Watch;
 
 #[derive(Drop)]
@@ -12,7 +14,10 @@ pub struct Ticker<'a> {
 }
 
 impl<'a> Ticker<'a> {
-    pub fn new(out: Option<&'a HostRuntime>) -> Ticker<'a> {
+    pub fn new(out: Option<&'a HostRuntime>) -> Ticker<'a>
+        ensures tick { result.tick ≡ 0 }
+        ensures fine { result.failed ≡ false }
+    {
         Ticker {
             out,
             tick: 0,
@@ -21,11 +26,16 @@ impl<'a> Ticker<'a> {
     }
 
     // The next tick is the first of a cut.
-    pub fn restart(&mut self) {
+    pub fn restart(&mut self)
+        ensures tick { self.new.tick ≡ 0 }
+        ensures failed { self.new.failed ≡ self.old.failed }
+    {
         self.tick = 0;
     }
 
-    pub fn has_failed(&self) -> bool {
+    pub fn has_failed(&self) -> bool
+        ensures { result ≡ self.now.failed }
+    {
         self.failed
     }
 }

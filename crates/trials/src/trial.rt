@@ -1,4 +1,8 @@
 // A line of the input: a plan, and how it is run.
+ghost use Rattle.std.specs.Prelude.{◌≡◌, Some, None, MatchResult};
+ghost use Rattle.profile.specs.Plans.{plan_fault};
+ghost use Rattle.trials.specs.Trials.{plan_asked};
+
 use bench::flat::rows_of;
 use bench::run::{Outcome, run_plan};
 use profile::fault::PlanFault;
@@ -48,7 +52,10 @@ impl Trial {
         })
     }
 
-    pub fn run(&self) -> Result<Outcome, PlanFault> {
+    // What its plan comes to, or the first reason why its numbers make none.
+    pub fn run(&self) -> Result<Outcome, PlanFault>
+        ensures { MatchResult result (λ _. plan_fault (plan_asked self.now) ≡ None) (λ why. plan_fault (plan_asked self.now) ≡ Some why) }
+    {
         let plan = Plan::new(self.start, self.rates, self.rows.as_slice())?;
         let braked = self.braked.map(u64::from);
         Ok(match self.length {
