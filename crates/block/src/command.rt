@@ -35,7 +35,7 @@ pub fn commanded(rising: u16) -> Result<Option<Command>, Refusal>
         0x0010 => Ok(Some(Command::Stop)),
         0x0200 => Ok(Some(Command::Preset)),
         0x0400 => Ok(Some(Command::Reset)),
-        0x0800 => Ok(Some(Command::Program)),
+        PROGRAM => Ok(Some(Command::Program)),
         0x1000 => Ok(Some(Command::Segment)),
         0x2000 => Ok(Some(Command::Run)),
         _ => Err(Refusal::SeveralCommands),

@@ -22,6 +22,8 @@ fn joined(first: i16, second: i16) -> i32
     1000 * i32::from(first) + i32::from(second)
 }
 
+// `decode` and `encode` are names that the rules of the project give, so the conversions of a pair are these two, and no `TryFrom`
+// stands beside them.
 impl Pair {
     // The number that the words say, if they are a pair; it has no other pair.
     pub fn decode(self) -> Option<i32>
