@@ -19,20 +19,22 @@ impl Segment {
         Direction::toward(0, self.distance)
     }
 
-    // The row of a plan that travels it: its size, whatever its sign.
-    pub(crate) fn row(self) -> Row
-        ensures { result ≡ row_of self }
-    {
-        Row {
-            steps: self.distance.unsigned_abs(),
-            speed: self.speed,
-        }
-    }
-
     // Whether it may stand in a table for this starting speed.
     pub(crate) fn fits(self, start: u32) -> bool
         ensures { result ≡ is_segment start self }
     {
         self.distance != 0 && is_position(self.distance) && (start..=200_000).contains(&self.speed)
+    }
+}
+
+// The row of a plan that travels it: its size, whatever its sign.
+impl From<Segment> for Row {
+    ghost from_gives = { λ segment row. row ≡ row_of segment };
+
+    fn from(segment: Segment) -> Row {
+        Row {
+            steps: segment.distance.unsigned_abs(),
+            speed: segment.speed,
+        }
     }
 }

@@ -15,7 +15,8 @@ mod tells;
 pub struct Table {
     start: u32,
     rows: ArrayVec<Segment, 16>,
-    // No `Option` of the rows: they are there, and are added to, while a table is not ready.
+    // Whether the programming of the rows was closed: a fact of its own, since the same rows may stand there before. An enum around
+    // the rows would hold them in each of its variants, and one of two variants without values would be a `bool` by another name.
     ready: bool,
     ghost starts: { (1 ≤ start) × (start ≤ 200000) },
     ghost few: { length rows.items ≤ 16 },

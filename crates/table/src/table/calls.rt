@@ -38,7 +38,7 @@ impl Table {
     pub fn has_room(&self) -> bool
         ensures { result ≡ has_room (table_means self.now) }
     {
-        self.len() < 16
+        !self.rows.is_full()
     }
 
     #[tactic(auto, using(crate::proofs::SegmentLaws::no_segments))]

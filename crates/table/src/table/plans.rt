@@ -12,6 +12,7 @@ use profile::fault::PlanFault;
 use profile::list::RowList;
 use profile::plan::Plan;
 use profile::rates::Rates;
+use profile::row::Row;
 
 impl Table {
     // The rows of a blend.
@@ -20,7 +21,7 @@ impl Table {
     {
         let mut rows = RowList::new();
         for segment in self.rows() {
-            rows.push(segment.row()).unwrap();
+            rows.push(Row::from(*segment)).unwrap();
         }
         rows
     }
@@ -44,6 +45,6 @@ impl Table {
     pub fn row_plan(&self, rates: Rates, i: usize) -> Result<Plan, PlanFault>
         ensures { Made (row_plan (table_means self.now) rates i) result }
     {
-        Plan::new(self.start, rates, &[self.row(i).row()])
+        Plan::new(self.start, rates, &[Row::from(self.row(i))])
     }
 }
