@@ -3,7 +3,6 @@ ghost use Rattle.std.specs.Prelude.{◌≡◌, ◌≤◌, true, pos, ◌+ℤ◌,
 ghost use Rattle.drive.specs.Positions.{is_position};
 ghost use Rattle.block.specs.Pairs.{decoded};
 ghost use Rattle.axis.specs.Axes.{meaning};
-ghost use Rattle.axis.specs.Plans.{blend_end};
 ghost use Rattle.axis.specs.Judging.{heard, allowed, inhibited as inhibited_of, in_range, speed_fits, rates_fit, rates_of, leg_of, dwell_fits, run_of, pace_fits, go_judged, on_course, may_move, absolute_asked, relative_asked, segment_asked, absolute_judged, relative_judged, resume_judged, blend_judged, dwell_judged, preset_judged, segment_judged, values_judged, judged};
 
 use crate::axis::Axis;
@@ -53,15 +52,6 @@ fn rates_of(block: Block) -> Rates
         accel: u32::from(block.accel.unsigned_abs()),
         decel: u32::from(block.decel.unsigned_abs()),
     }
-}
-
-// Where a distance from a position leads.
-fn displaced(place: i32, distance: i32) -> i32
-    requires placed { is_position place ≡ true }
-    requires near { unsigned_abs distance ≤ 134217712 }
-    ensures { result ≡ place +ℤ distance }
-{
-    place + distance
 }
 
 // The numbers of a single move.
@@ -201,12 +191,12 @@ impl<D: Drive, P: Profile> Axis<D, P> {
         self.ask_absolute(block, target, speed)
     }
 
-    // Where an offset leads.
+    // Where an offset leads: that of a move, or all the steps of a table.
     fn offset_end(&self, offset: i32) -> i32
-        requires { is_position offset ≡ true }
+        requires { unsigned_abs offset ≤ 134217712 }
         ensures { result ≡ (D.Drive.means self.now.drive).place +ℤ offset }
     {
-        displaced(self.drive.place(), offset)
+        self.drive.place() + offset
     }
 
     fn ask_relative(&self, block: Block, offset: i32, speed: i32) -> Result<Order, Refusal>
@@ -240,8 +230,9 @@ impl<D: Drive, P: Profile> Axis<D, P> {
     {
         self.ask_move(rates_fit(block))?;
         let direction = block.direction();
+        let offset = direction.signed(self.memory.table.blend_steps() as u64);
         self.on_course(
-            self.blend_end(direction),
+            self.offset_end(offset),
             direction,
             Order::Blend(direction, rates_of(block)),
         )
@@ -263,16 +254,6 @@ impl<D: Drive, P: Profile> Axis<D, P> {
             return Err(Refusal::Limit);
         }
         Ok(Order::Dwell(run_of(block)))
-    }
-
-    // Where a blend ends.
-    fn blend_end(&self, direction: Direction) -> i32
-        ensures { result ≡ blend_end (meaning D.Drive P.Profile self.now) direction }
-    {
-        displaced(
-            self.drive.place(),
-            direction.signed(self.memory.table.blend_steps() as u64),
-        )
     }
 
     fn ask_segment(&self, distance: i32, speed: i32) -> Result<Order, Refusal>

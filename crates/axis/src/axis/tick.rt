@@ -15,18 +15,9 @@ use drive::send::send;
 use drive::traits::Drive;
 use profile::traits::Profile;
 
-// Sends a drive the whole steps of `gone` millisteps that were not sent before; none where the drive refuses them.
-fn send_due<D: Drive>(drive: &mut D, gone: u64, sent: u64, direction: Direction) -> Option<i32>
-    ensures answer { result ≡ (if takes_all D.Drive.G (D.Drive.means drive.old) (signed direction (gone / 1000 - sent)) then Some (signed direction (gone / 1000 - sent)) else None) }
-    ensures after { D.Drive.means drive.new ≡ sent_to D.Drive.G (D.Drive.means drive.old) (signed direction (gone / 1000 - sent)) }
-    ensures refused { result ≡ None → drive.new ≡ drive.old }
-    ensures none { result ≡ Some (pos 0) → drive.new ≡ drive.old }
-{
-    send(drive, gone, sent, direction).ok()
-}
-
 impl<D: Drive, P: Profile> Axis<D, P> {
     // The profile ticks, and the steps due go to the drive; none where the drive refuses them.
+    #[tactic(auto, using(crate::proofs::Sending::sent))]
     fn advance(&mut self, direction: Direction) -> Option<i32>
         ensures answer { result ≡ (if takes_all D.Drive.G (D.Drive.means self.old.drive) (due direction (P.Profile.means self.old.profile).gone (P.Profile.means self.new.profile)) then Some (due direction (P.Profile.means self.old.profile).gone (P.Profile.means self.new.profile)) else None) }
         ensures after { meaning D.Drive P.Profile self.new ≡ moved D.Drive.G (meaning D.Drive P.Profile self.old) direction (P.Profile.means self.old.profile).gone (P.Profile.means self.new.profile) }
@@ -40,7 +31,7 @@ impl<D: Drive, P: Profile> Axis<D, P> {
             last: advance,
             before: self.memory.pace.last,
         };
-        send_due(&mut self.drive, self.profile.gone(), sent, direction)
+        send(&mut self.drive, self.profile.gone(), sent, direction).ok()
     }
 
     // A tick of what moves; a drive that refuses makes a full stop.
