@@ -9,7 +9,11 @@ pub enum State {
     // A plan is in motion.
     Running(Travel),
     // Between two rows of a dwell move: the row that comes next, and the ticks still to wait.
-    Pausing(DwellRun, usize, u32),
+    Pausing {
+        run: DwellRun,
+        row: usize,
+        ticks: u32,
+    },
     // A plan is coming to rest.
     Holding(Travel),
     // A single move at rest on its way to this target.
@@ -29,6 +33,6 @@ pub enum Kind {
     Single(i32),
     // All rows of the table as one plan.
     Blend,
-    // This row of the table, as a plan of its own. (A struct of the two would be taken apart wherever it is read.)
-    Dwell(DwellRun, usize),
+    // This row of the table, as a plan of its own.
+    Dwell { run: DwellRun, row: usize },
 }

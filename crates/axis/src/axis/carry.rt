@@ -63,7 +63,7 @@ impl<D: Drive, P: Profile> Axis<D, P> {
                 self.memory
                     .ease(self.profile.done(), self.drive.place(), travel);
             }
-            State::Pausing(_, _, _) => {
+            State::Pausing { .. } => {
                 self.profile.brake();
                 self.memory.state = State::Idle;
             }

@@ -30,7 +30,7 @@ impl<D: Drive, P: Profile> Axis<D, P> {
     {
         match (&self.memory.state, event) {
             (
-                State::Running(_) | State::Pausing(_, _, _) | State::Holding(_),
+                State::Running(_) | State::Pausing { .. } | State::Holding(_),
                 Event::Limit(direction, true),
             ) if self.memory.levels.limits.is_clear(direction) => {
                 self.memory.levels.limits.set(direction, true);

@@ -99,7 +99,7 @@ impl<D: Drive, P: Profile> Axis<D, P> {
         match (&self.memory.state, command) {
             (_, Command::Stop) => true,
             (State::Idle | State::Held(_), Command::Reset) => true,
-            (State::Running(_) | State::Pausing(_, _, _), Command::Hold) => true,
+            (State::Running(_) | State::Pausing { .. }, Command::Hold) => true,
             (State::Held(_), Command::Resume) => true,
             (State::Programming, Command::Segment) if self.memory.table.has_room() => true,
             (

@@ -75,9 +75,13 @@ impl<D: Drive, P: Profile> Axis<D, P> {
     {
         match self.memory.state {
             State::Running(travel) | State::Holding(travel) => self.move_on(travel.direction),
-            State::Pausing(run, row, 0) => self.begin_row(run, row),
-            State::Pausing(run, row, ticks) => {
-                self.memory.state = State::Pausing(run, row, ticks - 1);
+            State::Pausing { run, row, ticks: 0 } => self.begin_row(run, row),
+            State::Pausing { run, row, ticks } => {
+                self.memory.state = State::Pausing {
+                    run,
+                    row,
+                    ticks: ticks - 1,
+                };
                 0
             }
             State::Idle | State::Programming | State::Held(_) => 0,

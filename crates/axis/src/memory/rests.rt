@@ -41,7 +41,7 @@ impl Memory {
         match kind {
             Kind::Single(target) if place == target => self.complete(),
             Kind::Single(target) => self.state = State::Held(target),
-            Kind::Blend | Kind::Dwell(_, _) => self.state = State::Idle,
+            Kind::Blend | Kind::Dwell { .. } => self.state = State::Idle,
         }
     }
 
@@ -61,10 +61,14 @@ impl Memory {
         ensures { memory_means self.new ≡ ended (memory_means self.old) kind }
     {
         match kind {
-            Kind::Dwell(run, row) if self.table.has_after(row) => {
-                self.state = State::Pausing(run, row + 1, run.dwell);
+            Kind::Dwell { run, row } if self.table.has_after(row) => {
+                self.state = State::Pausing {
+                    run,
+                    row: row + 1,
+                    ticks: run.dwell,
+                };
             }
-            Kind::Single(_) | Kind::Blend | Kind::Dwell(_, _) => self.complete(),
+            Kind::Single(_) | Kind::Blend | Kind::Dwell { .. } => self.complete(),
         }
     }
 
@@ -86,7 +90,7 @@ impl Memory {
         match self.state {
             State::Running(travel) => self.arrive(done, travel),
             State::Holding(travel) => self.ease(done, place, travel),
-            State::Idle | State::Programming | State::Pausing(_, _, _) | State::Held(_) => {}
+            State::Idle | State::Programming | State::Pausing { .. } | State::Held(_) => {}
         }
     }
 }

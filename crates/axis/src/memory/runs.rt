@@ -52,7 +52,7 @@ impl Memory {
     {
         Travel {
             direction: self.table.row(row).direction(),
-            kind: Kind::Dwell(run, row),
+            kind: Kind::Dwell { run, row },
         }
     }
 
