@@ -15,7 +15,7 @@ use Rattle.block.specs.declared.refusal.Refusal.TheVariants as refusal
 use Rattle.table.specs.Courses.{goes_to, stays_on, is_clear, are_clear}
 use Rattle.table.specs.Tables.{has_room}
 use Rattle.axis.specs.Axes.{AxisMeans}
-use Rattle.axis.specs.Judging.{asked, then_ask, said, move_asked, on_held, rests, programs, held_target, allowed, inhibited, speed_fits, rates_fit, dwell_fits, pace_fits, rates_of, leg_of, run_of, on_course, go_judged, absolute_asked, relative_asked, segment_asked, dwell_judged, blend_judged, resume_judged, values_judged, command_judged, judged}
+use Rattle.axis.specs.Judging.{asked, then_ask, heard, numbers_of, move_asked, on_held, rests, programs, held_target, allowed, inhibited, speed_fits, rates_fit, dwell_fits, pace_fits, rates_of, leg_of, run_of, on_course, go_judged, absolute_asked, relative_asked, segment_asked, dwell_judged, blend_judged, resume_judged, values_judged, command_judged, judged}
 use Rattle.axis.specs.Plans.{blend_end}
 use Rattle.axis.specs.declared.order.Order.{Order}
 use Rattle.axis.specs.declared.order.Order.TheVariants as order
@@ -29,10 +29,10 @@ pub passes : {X : Type 0} (q : Bool) (why : Refusal) (next : Result X Refusal) (
 passes true why next x e = (refl, e)
 passes false why next x e = absurd (none_so why x e)
 
--- a pair that was heard
-hears : {X : Type 0} (n : Option ℤ) (next : ℤ → Result X Refusal) (x : X) → said n next ≡ Ok x → (z : ℤ) × (next z ≡ Ok x)
-hears None next x e = absurd (none_so refusal.Pair x e)
-hears (Some z) next x e = (z, e)
+-- a pair, or both pairs, that were heard
+hears : {X Y : Type 0} (r : Result X Refusal) (next : X → Result Y Refusal) (y : Y) → then_ask r next ≡ Ok y → (x : X) × (next x ≡ Ok y)
+hears (Err why) next y e = absurd (none_so why y e)
+hears (Ok x) next y e = (x, e)
 
 -- a move that may be made
 moves : (m : AxisMeans) (fits : Bool) (next : Result Order Refusal) (o : Order) → move_asked m fits next ≡ Ok o → (fits ≡ true) × (not (inhibited m) ≡ true) × (next ≡ Ok o)
@@ -93,7 +93,7 @@ module _ (g : ℕ) (m : AxisMeans) (Q : Order → Type 0) (f : Follows g m Q) wh
   resume_follows : (t : Option ℤ) (b : Block) (o : Order) → on_held t (resume_judged g m b) ≡ Ok o → Q o
   resume_follows None b o e = absurd (none_so refusal.State o e)
   resume_follows (Some target) b o e =
-      let p = hears (decoded b.speed) _ o e in
+      let p = hears (heard (decoded b.speed)) _ o e in
       let q = moves m (pace_fits g m b p.0) _ o p.1 in
       go_follows b target p.0 o q.0 q.1 q.2
 
@@ -113,26 +113,20 @@ module _ (g : ℕ) (m : AxisMeans) (Q : Order → Type 0) (f : Follows g m Q) wh
   -- a command that the state allows, and whose values are in range
   values_follow : (b : Block) (c : Command) (o : Order) → allowed m c ≡ true → values_judged g m b c ≡ Ok o → Q o
   values_follow b command.Absolute o a e =
-      let p = hears (decoded b.place) _ o e in
-      let q = hears (decoded b.speed) _ o p.1 in
-      absolute_follows b p.0 q.0 o q.1
+      let n = hears (numbers_of b) _ o e in absolute_follows n.0.block n.0.place n.0.speed o n.1
   values_follow b command.Relative o a e =
-      let p = hears (decoded b.place) _ o e in
-      let q = hears (decoded b.speed) _ o p.1 in
-      relative_follows b p.0 q.0 o q.1
+      let n = hears (numbers_of b) _ o e in relative_follows n.0.block n.0.place n.0.speed o n.1
   values_follow b command.Hold o a e = this order.Hold o f.hold e
   values_follow b command.Resume o a e = resume_follows (held_target m.memory.state) b o e
   values_follow b command.Stop o a e = this order.Stop o f.stop e
   values_follow b command.Preset o a e =
-      let p = hears (decoded b.place) _ o e in
+      let p = hears (heard (decoded b.place)) _ o e in
       let q = passes (is_position p.0) refusal.Range _ o p.1 in
       this _ o (f.preset p.0 q.0) q.1
   values_follow b command.Reset o a e = this _ o (f.reset (clears_trip_of b)) e
   values_follow b command.Program o a e = this order.Program o f.program e
   values_follow b command.Segment o a e =
-      let p = hears (decoded b.place) _ o e in
-      let q = hears (decoded b.speed) _ o p.1 in
-      segment_follows p.0 q.0 o a q.1
+      let n = hears (numbers_of b) _ o e in segment_follows n.0.place n.0.speed o a n.1
   values_follow b command.Run o a e =
       let p = and_parts (rests m.memory.state) _ a in
       run_follows (is_dwell_of b) b o (and_parts (not m.memory.flags.configuration) m.memory.table.ready p.1).1 e

@@ -1,5 +1,5 @@
 -- A delivery, as the steps that reach the drive or none.
-use Rattle.std.proofs.Common.{◌≡◌, ℕ, true, false, cond, eqb, ℤ, pos, nat_abs, is_ok, Some, None, Ok, Err, Option, Result, sym, ap, ◌∙◌, ⊎_elim, arith}
+use Rattle.std.proofs.Common.{◌≡◌, ℕ, true, false, cond, eqb, ℤ, pos, nat_abs, is_ok, Some, None, Ok, Err, Result, sym, ap, ◌∙◌, ⊎_elim, arith}
 use Rattle.std.specs.Result.{result_ok}
 use Rattle.std.proofs.lemmas.Bool.{cases_Bool, eqb-true, eqb-false}
 use Rattle.std.proofs.lemmas.Int.{ints}

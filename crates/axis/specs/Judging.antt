@@ -15,6 +15,7 @@ use Rattle.table.specs.Courses.{goes_to, stays_on, is_clear, are_clear}
 use Rattle.table.specs.Tables.{has_room}
 use Rattle.axis.specs.Axes.{AxisMeans}
 use Rattle.axis.specs.Plans.{blend_end}
+use Rattle.axis.specs.declared.numbers.Numbers.{Numbers}
 use Rattle.axis.specs.declared.order.DwellRun.{DwellRun}
 use Rattle.axis.specs.declared.order.Leg.{Leg}
 use Rattle.axis.specs.declared.order.Order.{Order}
@@ -39,6 +40,10 @@ heard (Some n) = Ok n
 
 abbrev pub said : {X : Type 0} → Option ℤ → (ℤ → Result X Refusal) → Result X Refusal
 said n next = then_ask (heard n) next
+
+-- the numbers of a block that uses both pairs: the words of the place are asked first
+unfoldable pub numbers_of : Block → Result Numbers Refusal
+numbers_of b = said (decoded b.place) (λ place. said (decoded b.speed) (λ v. Ok (record { block = b; place = place; speed = v })))
 
 -- states
 abbrev pub rests : State → Bool
@@ -143,6 +148,10 @@ may_move m fits = asked fits refusal.Range (asked (not (inhibited m)) refusal.In
 abbrev pub move_asked : AxisMeans → Bool → Result Order Refusal → Result Order Refusal
 move_asked m fits next = then_ask (may_move m fits) (λ done. next)
 
+-- a single move to a target, beyond how the target is found
+abbrev pub leg_asked : ℕ → AxisMeans → Block → ℤ → ℤ → Result Order Refusal
+leg_asked g m b target v = move_asked m (pace_fits g m b v) (go_judged m (leg_of b target v))
+
 -- for an absolute move the position has to be valid, which is asked before its course
 abbrev pub absolute_asked : ℕ → AxisMeans → Block → ℤ → ℤ → Result Order Refusal
 absolute_asked g m b target v =
@@ -153,21 +162,16 @@ absolute_asked g m b target v =
 
 abbrev pub relative_asked : ℕ → AxisMeans → Block → ℤ → ℤ → Result Order Refusal
 relative_asked g m b offset v =
-    asked (is_position offset) refusal.Range
-    (move_asked m (pace_fits g m b v)
-    (go_judged m (leg_of b (m.drive.place +ℤ offset) v)))
-
-abbrev pub resume_asked : ℕ → AxisMeans → Block → ℤ → ℤ → Result Order Refusal
-resume_asked g m b target v = move_asked m (pace_fits g m b v) (go_judged m (leg_of b target v))
+    asked (is_position offset) refusal.Range (leg_asked g m b (m.drive.place +ℤ offset) v)
 
 abbrev pub absolute_judged : ℕ → AxisMeans → Block → Result Order Refusal
-absolute_judged g m b = said (decoded b.place) (λ target. said (decoded b.speed) (λ v. absolute_asked g m b target v))
+absolute_judged g m b = then_ask (numbers_of b) (λ n. absolute_asked g m n.block n.place n.speed)
 
 abbrev pub relative_judged : ℕ → AxisMeans → Block → Result Order Refusal
-relative_judged g m b = said (decoded b.place) (λ offset. said (decoded b.speed) (λ v. relative_asked g m b offset v))
+relative_judged g m b = then_ask (numbers_of b) (λ n. relative_asked g m n.block n.place n.speed)
 
 abbrev pub resume_judged : ℕ → AxisMeans → Block → ℤ → Result Order Refusal
-resume_judged g m b target = said (decoded b.speed) (λ v. resume_asked g m b target v)
+resume_judged g m b target = said (decoded b.speed) (λ v. leg_asked g m b target v)
 
 abbrev pub blend_judged : AxisMeans → Block → Result Order Refusal
 blend_judged m b =
@@ -185,13 +189,17 @@ dwell_judged m b =
 abbrev pub preset_judged : Block → Result Order Refusal
 preset_judged b = said (decoded b.place) (λ p. asked (is_position p) refusal.Range (Ok (order.Preset p)))
 
+-- a row of the table: not of 0 steps, and within the positions
+abbrev pub segment_fits : ℕ → AxisMeans → ℤ → ℤ → Bool
+segment_fits g m d v = not (unsigned_abs d == 0) && (is_position d && speed_fits g m v)
+
 abbrev pub segment_asked : ℕ → AxisMeans → ℤ → ℤ → Result Order Refusal
 segment_asked g m d v =
-    asked (not (unsigned_abs d == 0) && (is_position d && speed_fits g m v)) refusal.Range
+    asked (segment_fits g m d v) refusal.Range
     (Ok (order.Segment (record { distance = d; speed = unsigned_abs v })))
 
 abbrev pub segment_judged : ℕ → AxisMeans → Block → Result Order Refusal
-segment_judged g m b = said (decoded b.place) (λ d. said (decoded b.speed) (λ v. segment_asked g m d v))
+segment_judged g m b = then_ask (numbers_of b) (λ n. segment_asked g m n.place n.speed)
 
 -- a command that the state allows
 abbrev pub values_judged : ℕ → AxisMeans → Block → Command → Result Order Refusal

@@ -4,5 +4,6 @@
 pub mod axis;
 pub mod flags;
 pub mod memory;
+mod numbers;
 pub mod order;
 pub mod state;

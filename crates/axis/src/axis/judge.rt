@@ -1,16 +1,15 @@
 // A block is judged first, which changes nothing: what it orders, or why it is refused.
 ghost use Rattle.std.specs.Prelude.{◌≡◌, ◌≤◌, true, pos, ◌+ℤ◌, unsigned_abs};
 ghost use Rattle.drive.specs.Positions.{is_position};
-ghost use Rattle.block.specs.Pairs.{decoded};
 ghost use Rattle.axis.specs.Axes.{meaning};
-ghost use Rattle.axis.specs.Judging.{heard, allowed, inhibited as inhibited_of, in_range, speed_fits, rates_fit, rates_of, leg_of, dwell_fits, run_of, pace_fits, go_judged, on_course, may_move, absolute_asked, relative_asked, segment_asked, absolute_judged, relative_judged, resume_judged, blend_judged, dwell_judged, preset_judged, segment_judged, values_judged, judged};
+ghost use Rattle.axis.specs.Judging.{allowed, inhibited as inhibited_of, in_range, speed_fits, rates_fit, rates_of, leg_of, dwell_fits, run_of, pace_fits, segment_fits, go_judged, on_course, may_move, absolute_asked, relative_asked, segment_asked, leg_asked, resume_judged, blend_judged, dwell_judged, preset_judged, values_judged, judged};
 
 use crate::axis::Axis;
+use crate::numbers::{Numbers, number};
 use crate::order::{DwellRun, Leg, Order};
 use crate::state::State;
 use block::command::{Command, commanded};
 use block::frame::Block;
-use block::pair::Pair;
 use block::refusal::Refusal;
 use drive::direction::Direction;
 use drive::position::is_position;
@@ -19,16 +18,6 @@ use profile::rates::Rates;
 use profile::traits::Profile;
 use table::course::{goes_to, stays_on};
 use table::segment::Segment;
-
-// The number that two words say. Every pair is taken apart here, by `let .. else`, a form that the rules of the project ask for.
-fn number(pair: Pair) -> Result<i32, Refusal>
-    ensures { result ≡ heard (decoded pair) }
-{
-    let Some(number) = pair.decode() else {
-        return Err(Refusal::Pair);
-    };
-    Ok(number)
-}
 
 // Whether an acceleration or a deceleration is in range.
 fn rate_fits(rate: i16) -> bool
@@ -54,14 +43,14 @@ fn rates_of(block: Block) -> Rates
     }
 }
 
-// The numbers of a single move.
-fn leg_of(block: Block, target: i32, speed: i32) -> Leg
-    ensures { result ≡ leg_of block target speed }
+// The numbers of a single move to their place.
+fn leg_of(numbers: Numbers) -> Leg
+    ensures { result ≡ leg_of numbers.block numbers.place numbers.speed }
 {
     Leg {
-        target,
-        speed: speed.unsigned_abs(),
-        rates: rates_of(block),
+        target: numbers.place,
+        speed: numbers.speed.unsigned_abs(),
+        rates: rates_of(numbers.block),
     }
 }
 
@@ -130,10 +119,17 @@ impl<D: Drive, P: Profile> Axis<D, P> {
 
     // Are the speed and the rates of a move in range?
     #[tactic(auto, unfolding(crate::specs::Judging::pace_fits))]
-    fn pace_fits(&self, block: Block, speed: i32) -> bool
-        ensures { result ≡ pace_fits D.Drive.G (meaning D.Drive P.Profile self.now) block speed }
+    fn pace_fits(&self, numbers: Numbers) -> bool
+        ensures { result ≡ pace_fits D.Drive.G (meaning D.Drive P.Profile self.now) numbers.block numbers.speed }
     {
-        self.speed_fits(speed) && rates_fit(block)
+        self.speed_fits(numbers.speed) && rates_fit(numbers.block)
+    }
+
+    // Are the distance and the speed of a row in range?
+    fn segment_fits(&self, numbers: Numbers) -> bool
+        ensures { result ≡ segment_fits D.Drive.G (meaning D.Drive P.Profile self.now) numbers.place numbers.speed }
+    {
+        numbers.place != 0 && is_position(numbers.place) && self.speed_fits(numbers.speed)
     }
 
     // Are the numbers of a move in range, and is nothing on that inhibits it?
@@ -170,25 +166,17 @@ impl<D: Drive, P: Profile> Axis<D, P> {
         self.on_course(leg.target, direction, Order::Go(leg))
     }
 
-    fn ask_absolute(&self, block: Block, target: i32, speed: i32) -> Result<Order, Refusal>
-        ensures { result ≡ absolute_asked D.Drive.G (meaning D.Drive P.Profile self.now) block target speed }
+    fn judge_absolute(&self, numbers: Numbers) -> Result<Order, Refusal>
+        ensures { result ≡ absolute_asked D.Drive.G (meaning D.Drive P.Profile self.now) numbers.block numbers.place numbers.speed }
     {
-        if !is_position(target) {
+        if !is_position(numbers.place) {
             return Err(Refusal::Range);
         }
-        self.ask_move(self.pace_fits(block, speed))?;
+        self.ask_move(self.pace_fits(numbers))?;
         if self.memory.flags.invalid {
             return Err(Refusal::PositionInvalid);
         }
-        self.judge_go(leg_of(block, target, speed))
-    }
-
-    fn judge_absolute(&self, block: Block) -> Result<Order, Refusal>
-        ensures { result ≡ absolute_judged D.Drive.G (meaning D.Drive P.Profile self.now) block }
-    {
-        let target = number(block.place)?;
-        let speed = number(block.speed)?;
-        self.ask_absolute(block, target, speed)
+        self.judge_go(leg_of(numbers))
     }
 
     // Where an offset leads: that of a move, or all the steps of a table.
@@ -199,30 +187,35 @@ impl<D: Drive, P: Profile> Axis<D, P> {
         self.drive.place() + offset
     }
 
-    fn ask_relative(&self, block: Block, offset: i32, speed: i32) -> Result<Order, Refusal>
-        ensures { result ≡ relative_asked D.Drive.G (meaning D.Drive P.Profile self.now) block offset speed }
+    fn judge_relative(&self, numbers: Numbers) -> Result<Order, Refusal>
+        ensures { result ≡ relative_asked D.Drive.G (meaning D.Drive P.Profile self.now) numbers.block numbers.place numbers.speed }
     {
-        if !is_position(offset) {
+        if !is_position(numbers.place) {
             return Err(Refusal::Range);
         }
-        self.ask_move(self.pace_fits(block, speed))?;
-        self.judge_go(leg_of(block, self.offset_end(offset), speed))
+        self.judge_leg(Numbers {
+            place: self.offset_end(numbers.place),
+            ..numbers
+        })
     }
 
-    fn judge_relative(&self, block: Block) -> Result<Order, Refusal>
-        ensures { result ≡ relative_judged D.Drive.G (meaning D.Drive P.Profile self.now) block }
-    {
-        let offset = number(block.place)?;
-        let speed = number(block.speed)?;
-        self.ask_relative(block, offset, speed)
-    }
-
+    // A move to the target that is held: the words of a place are not looked at.
     fn judge_resume(&self, block: Block, target: i32) -> Result<Order, Refusal>
         ensures { result ≡ resume_judged D.Drive.G (meaning D.Drive P.Profile self.now) block target }
     {
-        let speed = number(block.speed)?;
-        self.ask_move(self.pace_fits(block, speed))?;
-        self.judge_go(leg_of(block, target, speed))
+        self.judge_leg(Numbers {
+            block,
+            place: target,
+            speed: number(block.speed)?,
+        })
+    }
+
+    // A move to a target that an offset leads to, or that is held.
+    fn judge_leg(&self, numbers: Numbers) -> Result<Order, Refusal>
+        ensures { result ≡ leg_asked D.Drive.G (meaning D.Drive P.Profile self.now) numbers.block numbers.place numbers.speed }
+    {
+        self.ask_move(self.pace_fits(numbers))?;
+        self.judge_go(leg_of(numbers))
     }
 
     fn judge_blend(&self, block: Block) -> Result<Order, Refusal>
@@ -256,24 +249,16 @@ impl<D: Drive, P: Profile> Axis<D, P> {
         Ok(Order::Dwell(run_of(block)))
     }
 
-    fn ask_segment(&self, distance: i32, speed: i32) -> Result<Order, Refusal>
-        ensures { result ≡ segment_asked D.Drive.G (meaning D.Drive P.Profile self.now) distance speed }
+    fn judge_segment(&self, numbers: Numbers) -> Result<Order, Refusal>
+        ensures { result ≡ segment_asked D.Drive.G (meaning D.Drive P.Profile self.now) numbers.place numbers.speed }
     {
-        if !(distance != 0 && is_position(distance) && self.speed_fits(speed)) {
+        if !self.segment_fits(numbers) {
             return Err(Refusal::Range);
         }
         Ok(Order::Segment(Segment {
-            distance,
-            speed: speed.unsigned_abs(),
+            distance: numbers.place,
+            speed: numbers.speed.unsigned_abs(),
         }))
-    }
-
-    fn judge_segment(&self, block: Block) -> Result<Order, Refusal>
-        ensures { result ≡ segment_judged D.Drive.G (meaning D.Drive P.Profile self.now) block }
-    {
-        let distance = number(block.place)?;
-        let speed = number(block.speed)?;
-        self.ask_segment(distance, speed)
     }
 
     // Judges the values of a command that the state allows.
@@ -281,8 +266,8 @@ impl<D: Drive, P: Profile> Axis<D, P> {
         ensures { result ≡ values_judged D.Drive.G (meaning D.Drive P.Profile self.now) block command }
     {
         match command {
-            Command::Absolute => self.judge_absolute(block),
-            Command::Relative => self.judge_relative(block),
+            Command::Absolute => self.judge_absolute(Numbers::read(block)?),
+            Command::Relative => self.judge_relative(Numbers::read(block)?),
             Command::Hold => Ok(Order::Hold),
             Command::Resume => {
                 let State::Held(target) = self.memory.state else {
@@ -294,7 +279,7 @@ impl<D: Drive, P: Profile> Axis<D, P> {
             Command::Preset => judge_preset(block),
             Command::Reset => Ok(Order::Reset(block.clears_trip())),
             Command::Program => Ok(Order::Program),
-            Command::Segment => self.judge_segment(block),
+            Command::Segment => self.judge_segment(Numbers::read(block)?),
             Command::Run => {
                 if block.is_dwell() {
                     self.judge_dwell(block)
