@@ -1,6 +1,6 @@
 -- The worked figures of the axis: those of motion, and beside them what the rules of blocks make of some words and numbers. Whether one
 -- holds is computed by the rules' own definitions.
-use Rattle.std.specs.Prelude.{ℕ, ◌/◌, Bool, true, false, ◌&&◌, List, [], ◌∷◌, ℤ, pos, Some, None, Ok, Option, ◌==◌}
+use Rattle.std.specs.Prelude.{ℕ, ◌/◌, Bool, false, ◌&&◌, ℤ, pos, Some, None, Ok, Option, ◌==◌}
 use Rattle.axis.specs.Axes.{powered_up}
 use Rattle.axis.specs.Judging.{said}
 use Rattle.axis.specs.Plans.{leg_plan}
@@ -50,7 +50,3 @@ holds (motion f) = motion_holds f
 holds (pair n a b) = let p : Pair = record { first = a; second = b } in same_pair p (encoded n) && same_number n (decoded p)
 holds (no_pair a b k) = pair_answer (record { first = a; second = b }) == k
 holds (resumes p n k) = plan_steps (resumed p (braked p (ticked_for n p (begun p))).asked) == k
-
-unfoldable pub all_hold : List Figure → Bool
-all_hold [] = true
-all_hold (f ∷ fs) = holds f && all_hold fs

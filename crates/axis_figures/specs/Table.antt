@@ -1,5 +1,5 @@
 -- The worked figures of the axis, in one table: those of motion, and those of pairs and of a Resume.
-use Rattle.std.specs.Prelude.{List, [], ◌∷◌, map, pos, negsuc}
+use Rattle.std.specs.Prelude.{List, ◌∷◌, map, pos, negsuc}
 use Rattle.figures.specs.Table.{two_steps, table as motion_table}
 use Rattle.axis_figures.specs.Figures.{Figure, motion, pair, no_pair, resumes}
 

@@ -1,6 +1,7 @@
 -- A worked figure says what the rules make of some numbers. Whether it holds is computed by the rules' own definitions: the
 -- braking distance, the advance of constant acceleration, and the mean of the values that smoothing keeps.
 use Rattle.std.specs.Prelude.{ℕ, zero, suc, ◌+◌, ◌*◌, Bool, true, false, ◌&&◌, List, [], ◌∷◌, replicate, ◌==◌, nat_lt}
+use Rattle.std.specs.List.{list_all}
 use Rattle.profile.specs.Plans.{PlanMeans, plan_steps}
 use Rattle.ramp.specs.Braking.{braking}
 use Rattle.ramp.specs.Ramping.{next_advance}
@@ -59,5 +60,4 @@ holds (brakes p n us g) = let m : Motion = braked p (ticked_for n p (begun p)) i
 holds (smooths p W gs) = smoothed_by p (begun p) (replicate W 0) gs
 
 unfoldable pub all_hold : List Figure → Bool
-all_hold [] = true
-all_hold (f ∷ fs) = holds f && all_hold fs
+all_hold fs = list_all holds fs
