@@ -17,16 +17,17 @@ pub(crate) fn number(pair: Pair) -> Result<i32, Refusal>
     Ok(number)
 }
 
-// A block that uses both of its pairs, with the numbers that they say.
+// The numbers of a block that orders a move or a row, and the block itself for its rates.
 #[derive(Clone, Copy)]
 pub(crate) struct Numbers {
     pub block: Block,
-    // A target, an offset or a distance.
+    // A target, an offset or a distance; at a Resume the target that is held, of which the block says nothing.
     pub place: i32,
     pub speed: i32,
 }
 
 impl Numbers {
+    // Those of both pairs.
     #[tactic(auto, unfolding(crate::specs::Judging::numbers_of))]
     pub(crate) fn read(block: Block) -> Result<Numbers, Refusal>
         ensures { result ≡ numbers_of block }

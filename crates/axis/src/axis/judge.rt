@@ -1,6 +1,5 @@
 // A block is judged first, which changes nothing: what it orders, or why it is refused.
-ghost use Rattle.std.specs.Prelude.{◌≡◌, ◌≤◌, true, pos, ◌+ℤ◌, unsigned_abs};
-ghost use Rattle.drive.specs.Positions.{is_position};
+ghost use Rattle.std.specs.Prelude.{◌≡◌, ◌≤◌, pos, ◌+ℤ◌, unsigned_abs};
 ghost use Rattle.axis.specs.Axes.{meaning};
 ghost use Rattle.axis.specs.Judging.{allowed, inhibited as inhibited_of, in_range, speed_fits, rates_fit, rates_of, leg_of, dwell_fits, run_of, pace_fits, segment_fits, go_judged, on_course, may_move, absolute_asked, relative_asked, segment_asked, leg_asked, resume_judged, blend_judged, dwell_judged, preset_judged, values_judged, judged};
 

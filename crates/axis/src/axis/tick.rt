@@ -1,10 +1,9 @@
 // The tick call.
-ghost use Rattle.std.specs.Prelude.{◌≡◌, ◌-◌, ◌/◌, false, pos, if◌then◌else◌, Some, None, MatchBool};
-ghost use Rattle.drive.specs.Directions.{signed};
+ghost use Rattle.std.specs.Prelude.{◌≡◌, false, pos, if◌then◌else◌, Some, None, MatchBool};
 ghost use Rattle.table.specs.TablePlans.{row_plan};
 ghost use Rattle.table.specs.Tables.{table_means};
 ghost use Rattle.axis.specs.Axes.{meaning};
-ghost use Rattle.axis.specs.Ticks.{due, takes_all, sent_to, steps_sent, moved, moved_on, is_plan, row_steps, row_begun, OneTick, FirstTick, in_motion, tick_steps, tick_after, TickUses};
+ghost use Rattle.axis.specs.Ticks.{due, takes_all, steps_sent, moved, moved_on, is_plan, row_steps, row_begun, OneTick, FirstTick, in_motion, tick_steps, tick_after, TickUses};
 
 use crate::axis::Axis;
 use crate::flags::Pace;
