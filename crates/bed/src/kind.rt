@@ -1,6 +1,6 @@
 // The kinds of bed that a script can name, by their words.
-ghost use Rattle.std.specs.Prelude.{◌≡◌};
-ghost use Rattle.bed.specs.Beds.{base_of, drive_word, profile_word, bed_of, profile_of, smooth_of, smooth_twice_of};
+ghost use Rattle.std.specs.Prelude.{◌≡◌, IfOk};
+ghost use Rattle.bed.specs.Beds.{drive_word, base_word, profile_word, bed_of, profile_of, part_of, after_part};
 ghost use Rattle.text.specs.Texts.{words_left};
 
 use crate::fault::LineFault;
@@ -21,26 +21,20 @@ pub enum BaseProfile {
     Ramp,
 }
 
-// The profiles that a bed may move by: one that stands on no other, or that one smoothed once or twice.
-// The lengths of the smoothing are as the line says them, the outermost first, and may be any numbers.
+// How often a profile is smoothed, and with which lengths: as the line says them, the outermost first. They may be any numbers.
+// An enum and no list: a third length cannot be written, so whoever chooses by it has no case that cannot be.
 #[derive(Clone, Copy, PartialEq, Eq, Debug)]
-pub enum ProfileKind {
-    Plain(BaseProfile),
-    Smooth(u32, BaseProfile),
-    SmoothTwice(u32, u32, BaseProfile),
+pub enum Smoothings {
+    Unsmoothed,
+    Once(u32),
+    Twice(u32, u32),
 }
 
-impl ProfileKind {
-    // The one that stands on no other.
-    pub fn base(self) -> BaseProfile
-        ensures { result ≡ base_of self }
-    {
-        match self {
-            ProfileKind::Plain(base)
-            | ProfileKind::Smooth(_, base)
-            | ProfileKind::SmoothTwice(_, _, base) => base,
-        }
-    }
+// The profiles that a bed may move by: one that stands on no other, and how it is smoothed.
+#[derive(Clone, Copy, PartialEq, Eq, Debug)]
+pub struct ProfileKind {
+    pub base: BaseProfile,
+    pub smoothings: Smoothings,
 }
 
 // A bed: the kind of its drive, and the profile that it moves by.
@@ -69,53 +63,66 @@ impl FromWord for DriveKind {
     }
 }
 
-impl FromWord for ProfileWord {
-    ghost read = { profile_word };
+impl FromWord for BaseProfile {
+    ghost read = { base_word };
 
-    fn from_word(word: &[u8]) -> Result<ProfileWord, LineFault> {
+    fn from_word(word: &[u8]) -> Result<BaseProfile, LineFault> {
         match word {
-            b"creep" => Ok(ProfileWord::Base(BaseProfile::Creep)),
-            b"ramp" => Ok(ProfileWord::Base(BaseProfile::Ramp)),
-            b"smooth" => Ok(ProfileWord::Smoothing),
+            b"creep" => Ok(BaseProfile::Creep),
+            b"ramp" => Ok(BaseProfile::Ramp),
             _ => Err(LineFault::UnknownProfile),
         }
     }
 }
 
-// The profile that words say.
+impl FromWord for ProfileWord {
+    ghost read = { profile_word };
+
+    fn from_word(word: &[u8]) -> Result<ProfileWord, LineFault> {
+        match word {
+            b"smooth" => Ok(ProfileWord::Smoothing),
+            _ => BaseProfile::from_word(word).map(ProfileWord::Base),
+        }
+    }
+}
+
+// What the words of a profile begin with: the one that stands on no other, or the length of a smoothing.
+enum Part {
+    Base(BaseProfile),
+    Smoothing(u32),
+}
+
+fn next_part(words: &mut Words) -> Result<Part, LineFault>
+    ensures part { result ≡ part_of (words_left words.old) }
+    ensures left { IfOk result (λ part. words_left words.new ≡ after_part part (words_left words.old)) }
+{
+    match read_next(words)? {
+        ProfileWord::Base(base) => Ok(Part::Base(base)),
+        ProfileWord::Smoothing => Ok(Part::Smoothing(read_next(words)?)),
+    }
+}
+
+// The profile that words say. After two lengths only a profile that stands on no other may follow.
 pub fn profile_kind(mut words: Words) -> Result<ProfileKind, LineFault>
     ensures { result ≡ profile_of (words_left words.entry) }
 {
-    match read_next(&mut words)? {
-        ProfileWord::Base(base) => complete(words, ProfileKind::Plain(base)),
-        ProfileWord::Smoothing => {
-            let outer = read_next(&mut words)?;
-            smooth(words, outer)
-        }
-    }
-}
-
-// The profile that words say after a `smooth` and its length.
-fn smooth(mut words: Words, outer: u32) -> Result<ProfileKind, LineFault>
-    ensures { result ≡ smooth_of outer (words_left words.entry) }
-{
-    match read_next(&mut words)? {
-        ProfileWord::Base(base) => complete(words, ProfileKind::Smooth(outer, base)),
-        ProfileWord::Smoothing => {
-            let inner = read_next(&mut words)?;
-            smooth_twice(words, outer, inner)
-        }
-    }
-}
-
-// The profile that words say after two `smooth` and their lengths: a third is refused.
-fn smooth_twice(mut words: Words, outer: u32, inner: u32) -> Result<ProfileKind, LineFault>
-    ensures { result ≡ smooth_twice_of outer inner (words_left words.entry) }
-{
-    match read_next(&mut words)? {
-        ProfileWord::Base(base) => complete(words, ProfileKind::SmoothTwice(outer, inner, base)),
-        ProfileWord::Smoothing => Err(LineFault::UnknownProfile),
-    }
+    let kind = match next_part(&mut words)? {
+        Part::Base(base) => ProfileKind {
+            base,
+            smoothings: Smoothings::Unsmoothed,
+        },
+        Part::Smoothing(outer) => match next_part(&mut words)? {
+            Part::Base(base) => ProfileKind {
+                base,
+                smoothings: Smoothings::Once(outer),
+            },
+            Part::Smoothing(inner) => ProfileKind {
+                base: read_next(&mut words)?,
+                smoothings: Smoothings::Twice(outer, inner),
+            },
+        },
+    };
+    complete(words, kind)
 }
 
 // The bed that words name: its drive, and then its profile.

@@ -1,5 +1,5 @@
 use crate::fault::LineFault;
-use crate::kind::{BaseProfile, DriveKind, ProfileKind, bed_kind};
+use crate::kind::{BaseProfile, DriveKind, ProfileKind, Smoothings, bed_kind};
 use crate::word::{FromWord, only};
 use drive::direction::Direction;
 use text::text::Words;
@@ -10,7 +10,10 @@ fn beds(rt: HostRuntime) {
     assert_eq!(rt; bed.map(|bed| bed.drive), Ok(DriveKind::Phase));
     assert_eq!(rt;
         bed.map(|bed| bed.profile),
-        Ok(ProfileKind::SmoothTwice(8, 3, BaseProfile::Creep))
+        Ok(ProfileKind {
+            base: BaseProfile::Creep,
+            smoothings: Smoothings::Twice(8, 3),
+        })
     );
     for (text, fault) in [
         (b"pulses ramp".as_slice(), LineFault::UnknownDrive),

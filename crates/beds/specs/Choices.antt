@@ -3,7 +3,8 @@ use Rattle.std.specs.Prelude.{◌≡◌, ℕ, ◌+◌, ◌-◌, None}
 use Rattle.bed.specs.declared.kind.DriveKind.{DriveKind}
 use Rattle.bed.specs.declared.kind.DriveKind.TheVariants.{Pulse, Phase}
 use Rattle.bed.specs.declared.kind.ProfileKind.{ProfileKind}
-use Rattle.bed.specs.declared.kind.ProfileKind.TheVariants.{Plain, Smooth, SmoothTwice}
+use Rattle.bed.specs.declared.kind.Smoothings.{Smoothings}
+use Rattle.bed.specs.declared.kind.Smoothings.TheVariants.{Unsmoothed, Once, Twice}
 use Rattle.profile.specs.Profiles.{ProfileMeans}
 use Rattle.smoothing.specs.Lengths.{length_for}
 
@@ -16,10 +17,14 @@ reach_of Phase = 20
 abbrev pub smoothed_lag : ℕ → ℕ → ℕ
 smoothed_lag lag length = lag + (length_for length - 1)
 
+-- the lag of a profile that lags by nothing itself
+abbrev pub lag_with : Smoothings → ℕ
+lag_with Unsmoothed = 0
+lag_with (Once length) = smoothed_lag 0 length
+lag_with (Twice outer inner) = smoothed_lag (smoothed_lag 0 inner) outer
+
 abbrev pub lag_of : ProfileKind → ℕ
-lag_of (Plain base) = 0
-lag_of (Smooth length base) = smoothed_lag 0 length
-lag_of (SmoothTwice outer inner base) = smoothed_lag (smoothed_lag 0 inner) outer
+lag_of kind = lag_with kind.smoothings
 
 -- a profile that has had no plan, and its lag
 pub record Fresh (lag : ℕ) (m : ProfileMeans) : Type 0 where

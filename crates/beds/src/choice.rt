@@ -2,11 +2,11 @@
 ghost use Rattle.std.specs.Prelude.{◌≡◌, ℕ};
 ghost use Rattle.drive.specs.Drives.{DriveMeans, at_rest};
 ghost use Rattle.profile.specs.Profiles.{ProfileMeans};
-ghost use Rattle.beds.specs.Choices.{Fresh, reach_of, lag_of, smoothed_lag};
+ghost use Rattle.beds.specs.Choices.{Fresh, reach_of, lag_of, lag_with, smoothed_lag};
 ghost use Rattle.smoothing.specs.Smoothing.{smooth_means};
 
 use crate::motor::Motor;
-use bed::kind::{BaseProfile, BedKind, DriveKind, ProfileKind};
+use bed::kind::{BaseProfile, BedKind, DriveKind, ProfileKind, Smoothings};
 use drive::phase::PhaseDrive;
 use drive::pulse::PulseDrive;
 use profile::creep::Creep;
@@ -31,22 +31,20 @@ fn smooth<P: Profile>(below: P, length: u32) -> Smoothed<P>
     Smoothed::new(below, length as usize)
 }
 
-// Over this drive and this profile, which is smoothed as the kind says.
+// Over this drive and this profile, smoothed so often.
 fn on_base<D: Motor + Drop, P: Profile + Drop, T: OnBed>(
     drive: D,
     base: P,
-    kind: ProfileKind,
+    smoothings: Smoothings,
     task: T,
 ) -> T::Output
     requires { Fresh 0 (P.means base) }
-    ensures { (m : ProfileMeans) × Fresh (lag_of kind) m × T.Comes task D.Drive.G (D.Drive.means drive) m result }
+    ensures { (m : ProfileMeans) × Fresh (lag_with smoothings) m × T.Comes task D.Drive.G (D.Drive.means drive) m result }
 {
-    match kind {
-        ProfileKind::Plain(_) => task.run(drive, base),
-        ProfileKind::Smooth(length, _) => task.run(drive, smooth(base, length)),
-        ProfileKind::SmoothTwice(outer, inner, _) => {
-            task.run(drive, smooth(smooth(base, inner), outer))
-        }
+    match smoothings {
+        Smoothings::Unsmoothed => task.run(drive, base),
+        Smoothings::Once(length) => task.run(drive, smooth(base, length)),
+        Smoothings::Twice(outer, inner) => task.run(drive, smooth(smooth(base, inner), outer)),
     }
 }
 
@@ -54,9 +52,9 @@ fn on_base<D: Motor + Drop, P: Profile + Drop, T: OnBed>(
 fn on_drive<D: Motor + Drop, T: OnBed>(drive: D, kind: ProfileKind, task: T) -> T::Output
     ensures { (m : ProfileMeans) × Fresh (lag_of kind) m × T.Comes task D.Drive.G (D.Drive.means drive) m result }
 {
-    match kind.base() {
-        BaseProfile::Creep => on_base(drive, Creep::new(), kind, task),
-        BaseProfile::Ramp => on_base(drive, Ramp::new(), kind, task),
+    match kind.base {
+        BaseProfile::Creep => on_base(drive, Creep::new(), kind.smoothings, task),
+        BaseProfile::Ramp => on_base(drive, Ramp::new(), kind.smoothings, task),
     }
 }
 

@@ -1,6 +1,6 @@
 use crate::choice::{OnBed, on_bed};
 use crate::motor::Motor;
-use bed::kind::{BaseProfile, BedKind, DriveKind, ProfileKind};
+use bed::kind::{BaseProfile, BedKind, DriveKind, ProfileKind, Smoothings};
 use profile::plan::Plan;
 use profile::rates::Rates;
 use profile::row::Row;
@@ -42,31 +42,46 @@ fn kinds(rt: HostRuntime) {
     for (drive, profile, coils, advance) in [
         (
             DriveKind::Pulse,
-            ProfileKind::Plain(BaseProfile::Creep),
+            ProfileKind {
+                base: BaseProfile::Creep,
+                smoothings: Smoothings::Unsmoothed,
+            },
             None,
             100u32,
         ),
         (
             DriveKind::Phase,
-            ProfileKind::Plain(BaseProfile::Ramp),
+            ProfileKind {
+                base: BaseProfile::Ramp,
+                smoothings: Smoothings::Unsmoothed,
+            },
             Some(1u8),
             300,
         ),
         (
             DriveKind::Pulse,
-            ProfileKind::Smooth(4, BaseProfile::Ramp),
+            ProfileKind {
+                base: BaseProfile::Ramp,
+                smoothings: Smoothings::Once(4),
+            },
             None,
             150,
         ),
         (
             DriveKind::Phase,
-            ProfileKind::Smooth(4, BaseProfile::Creep),
+            ProfileKind {
+                base: BaseProfile::Creep,
+                smoothings: Smoothings::Once(4),
+            },
             Some(1),
             75,
         ),
         (
             DriveKind::Pulse,
-            ProfileKind::SmoothTwice(2, 4, BaseProfile::Ramp),
+            ProfileKind {
+                base: BaseProfile::Ramp,
+                smoothings: Smoothings::Twice(2, 4),
+            },
             None,
             113,
         ),

@@ -2,7 +2,7 @@ use crate::fault::ReadFault;
 use crate::line::Line;
 use crate::read::read_line;
 use bed::fault::LineFault;
-use bed::kind::{BaseProfile, BedKind, DriveKind, ProfileKind};
+use bed::kind::{BaseProfile, BedKind, DriveKind, ProfileKind, Smoothings};
 use std::alloc::Global;
 use std::test::Fail;
 
@@ -11,36 +11,33 @@ fn fault(heap: Global, text: &[u8]) -> Option<ReadFault> {
     read_line(heap, text).err()
 }
 
-fn is_bed(heap: Global, text: &[u8], drive: DriveKind, profile: ProfileKind) -> bool {
+fn is_bed(heap: Global, text: &[u8], expected: BedKind) -> bool {
     match read_line(heap, text) {
-        Ok(Line::Bed(bed)) => bed == BedKind { drive, profile },
+        Ok(Line::Bed(bed)) => bed == expected,
         _ => false,
+    }
+}
+
+fn bed(drive: DriveKind, base: BaseProfile, smoothings: Smoothings) -> BedKind {
+    BedKind {
+        drive,
+        profile: ProfileKind { base, smoothings },
     }
 }
 
 #[test]
 fn beds(rt: HostRuntime) {
     let heap = rt.alloc();
-    let ramp = ProfileKind::Plain(BaseProfile::Ramp);
-    assert!(rt;
-        is_bed(
-            heap,
-            b"\tbed\tpulse  ramp# the first\r",
-            DriveKind::Pulse,
-            ramp,
-        )
+    let ramp = bed(DriveKind::Pulse, BaseProfile::Ramp, Smoothings::Unsmoothed);
+    assert!(rt; is_bed(heap, b"\tbed\tpulse  ramp# the first\r", ramp));
+    let smooth = bed(DriveKind::Phase, BaseProfile::Creep, Smoothings::Once(4));
+    assert!(rt; is_bed(heap, b"bed phase smooth 4 creep", smooth));
+    let twice = bed(
+        DriveKind::Phase,
+        BaseProfile::Creep,
+        Smoothings::Twice(8, 3),
     );
-    let smooth = ProfileKind::Smooth(4, BaseProfile::Creep);
-    assert!(rt; is_bed(heap, b"bed phase smooth 4 creep", DriveKind::Phase, smooth));
-    let twice = ProfileKind::SmoothTwice(8, 3, BaseProfile::Creep);
-    assert!(rt;
-        is_bed(
-            heap,
-            b"bed phase smooth 8 smooth 3 creep",
-            DriveKind::Phase,
-            twice,
-        )
-    );
+    assert!(rt; is_bed(heap, b"bed phase smooth 8 smooth 3 creep", twice));
 }
 
 #[test]

@@ -1,15 +1,18 @@
 use crate::line::{BlendLine, Line};
 use crate::read::read_line;
 use bed::fault::LineFault;
-use bed::kind::{BaseProfile, BedKind, DriveKind, ProfileKind};
+use bed::kind::{BaseProfile, BedKind, DriveKind, ProfileKind, Smoothings};
 use cut::order::Cut;
 use drive::direction::Direction;
 use profile::list::RowList;
 use profile::rates::Rates;
 use profile::row::Row;
 
-fn bed(drive: DriveKind, profile: ProfileKind) -> Line {
-    Line::Bed(BedKind { drive, profile })
+fn bed(drive: DriveKind, base: BaseProfile, smoothings: Smoothings) -> Line {
+    Line::Bed(BedKind {
+        drive,
+        profile: ProfileKind { base, smoothings },
+    })
 }
 
 #[test]
@@ -18,11 +21,11 @@ fn good_lines(rt: HostRuntime) {
     assert_eq!(rt; read_line(b" \t\r# cut 1"), Ok(Line::Blank));
     assert_eq!(rt;
         read_line(b"bed phase creep"),
-        Ok(bed(DriveKind::Phase, ProfileKind::Plain(BaseProfile::Creep)))
+        Ok(bed(DriveKind::Phase, BaseProfile::Creep, Smoothings::Unsmoothed))
     );
     assert_eq!(rt;
         read_line(b"\tbed\tpulse  creep# the first\r"),
-        Ok(bed(DriveKind::Pulse, ProfileKind::Plain(BaseProfile::Creep)))
+        Ok(bed(DriveKind::Pulse, BaseProfile::Creep, Smoothings::Unsmoothed))
     );
     assert_eq!(rt; read_line(b"at -2147483648"), Ok(Line::At(-2147483648)));
     assert_eq!(rt; read_line(b"tripped\r"), Ok(Line::Tripped));
@@ -67,13 +70,14 @@ fn faults(rt: HostRuntime) {
 fn profiles(rt: HostRuntime) {
     assert_eq!(rt;
         read_line(b"bed pulse smooth 4 creep"),
-        Ok(bed(DriveKind::Pulse, ProfileKind::Smooth(4, BaseProfile::Creep)))
+        Ok(bed(DriveKind::Pulse, BaseProfile::Creep, Smoothings::Once(4)))
     );
     assert_eq!(rt;
         read_line(b"bed phase smooth 4 smooth 8 ramp"),
         Ok(bed(
             DriveKind::Phase,
-            ProfileKind::SmoothTwice(4, 8, BaseProfile::Ramp),
+            BaseProfile::Ramp,
+            Smoothings::Twice(4, 8),
         ))
     );
     assert_eq!(rt;
