@@ -5,26 +5,39 @@ ghost use Rattle.longbed.specs.declared.refusal.Refusal.TheVariants as refusal;
 use bed::fault::LineFault;
 use cut::fault::CutFault;
 use profile::fault::PlanFault;
-use std::fmt;
+use thiserror::Error;
 
-#[derive(Clone, Copy, PartialEq, Eq, Debug)]
+#[derive(Clone, Copy, PartialEq, Eq, Debug, Error)]
 pub enum Refusal {
     // The line cannot be read.
+    #[error("{0}{hint}", hint = hint(.0))]
     Line(LineFault),
-    // No bed was named before it.
+    #[error("no bed is named yet")]
     NoBed,
-    // A bed was named before.
+    #[error("the bed is named already")]
     SecondBed,
-    // A cut came before it.
+    #[error("only before the first cut")]
     TooLate,
-    // The place is no position.
+    #[error("the place is no position (-8388607 to 8388607)")]
     NoPosition,
     // The cut or the blend cannot be made.
+    #[error("{0}")]
     Cut(CutFault),
     // The numbers of a blend make no plan.
+    #[error("{0}")]
     Plan(PlanFault),
 }
 
+// What helps the writer besides: the commands of this program, where the command is unknown.
+fn hint(fault: &LineFault) -> &'static str {
+    match fault {
+        LineFault::UnknownCommand => " (bed, at, tripped, cut or blend)",
+        _ => "",
+    }
+}
+
+// By hand, since a derived `From` has no contract: tried, and it is then unknown which refusal a `?` hands up, so that
+// `cut`, `blend` and `take_text` are not proved.
 impl From<LineFault> for Refusal {
     ghost from_gives = { λ fault r. r ≡ refusal.Line fault };
 
@@ -46,23 +59,5 @@ impl From<PlanFault> for Refusal {
 
     fn from(fault: PlanFault) -> Refusal {
         Refusal::Plan(fault)
-    }
-}
-
-// By hand, since an unknown command is told with the commands of this program.
-impl fmt::Display for Refusal {
-    fn fmt<W: fmt::Write>(&self, f: &mut fmt::Formatter<W>) -> fmt::Result {
-        match self {
-            Refusal::Line(LineFault::UnknownCommand) => {
-                f.write_str("unknown command (bed, at, tripped, cut or blend)")
-            }
-            Refusal::Line(why) => write!(f, "{why}"),
-            Refusal::NoBed => f.write_str("no bed is named yet"),
-            Refusal::SecondBed => f.write_str("the bed is named already"),
-            Refusal::TooLate => f.write_str("only before the first cut"),
-            Refusal::NoPosition => f.write_str("the place is no position (-8388607 to 8388607)"),
-            Refusal::Cut(why) => write!(f, "{why}"),
-            Refusal::Plan(why) => write!(f, "{why}"),
-        }
     }
 }

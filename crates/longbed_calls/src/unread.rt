@@ -5,14 +5,27 @@ ghost use Rattle.longbed_calls.specs.declared.unread.Unread.TheVariants as unrea
 use crate::order::OrderFault;
 use bed::fault::LineFault;
 use calls::fault::ReadFault;
-use std::fmt;
+use thiserror::Error;
 
-#[derive(Clone, Copy, PartialEq, Eq, Debug)]
+#[derive(Clone, Copy, PartialEq, Eq, Debug, Error)]
 pub enum Unread {
+    #[error("{0}{hint}", hint = hint(.0))]
     Text(ReadFault),
+    #[error("{0}")]
     Order(OrderFault),
 }
 
+// What helps the writer besides: the commands of this program, where the command is unknown.
+fn hint(fault: &ReadFault) -> &'static str {
+    match fault {
+        ReadFault::Line(LineFault::UnknownCommand) => {
+            " (bed, at, tripped, setup, block, event or tick)"
+        }
+        _ => "",
+    }
+}
+
+// By hand, since a derived `From` has no contract: it would be unknown which fault the `?` in `take_text` hands up.
 impl From<ReadFault> for Unread {
     ghost from_gives = { λ fault r. r ≡ unread.Text fault };
 
@@ -26,18 +39,5 @@ impl From<OrderFault> for Unread {
 
     fn from(fault: OrderFault) -> Unread {
         Unread::Order(fault)
-    }
-}
-
-// By hand, since an unknown command is told with the commands of this program.
-impl fmt::Display for Unread {
-    fn fmt<W: fmt::Write>(&self, f: &mut fmt::Formatter<W>) -> fmt::Result {
-        match self {
-            Unread::Text(ReadFault::Line(LineFault::UnknownCommand)) => {
-                f.write_str("unknown command (bed, at, tripped, setup, block, event or tick)")
-            }
-            Unread::Text(why) => write!(f, "{why}"),
-            Unread::Order(why) => write!(f, "{why}"),
-        }
     }
 }
