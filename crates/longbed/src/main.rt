@@ -9,6 +9,7 @@ mod tally;
 #[cfg(test)]
 mod tests;
 mod ticker;
+mod told;
 
 use anyhow::ensure;
 use run::run;

@@ -8,6 +8,7 @@ use crate::refusal::Refusal;
 use crate::table::Table;
 use crate::tally::Tally;
 use crate::ticker::Ticker;
+use crate::told::{Coils, Made};
 use bed::kind::BedKind;
 use beds::choice::{OnBed, on_bed};
 use beds::motor::Motor;
@@ -38,28 +39,6 @@ pub fn take_text<D: Motor, P: Profile, W: Watch>(
     table.take(read_line(text)?, watch)
 }
 
-fn print_coils<D: Motor>(rt: &HostRuntime, drive: &D) -> io::Result<()> {
-    match drive.coil_byte() {
-        Some(coils) => println!(rt; ", coils {coils}"),
-        None => println!(rt),
-    }
-}
-
-fn print_cut<D: Motor>(rt: &HostRuntime, number: u64, report: Report, drive: &D) -> io::Result<()> {
-    let Report {
-        from,
-        target: _,
-        to,
-        ticks,
-        steps,
-        peak,
-    } = report;
-    print!(rt;
-        "line {number}: cut from {from} to {to}: {ticks} ticks, {steps} steps, peak {peak}"
-    )?;
-    print_coils(rt, drive)
-}
-
 fn print_refusal(rt: &HostRuntime, number: u64, refusal: Refusal) -> io::Result<()> {
     eprintln!(rt; "line {number}: {refusal}")
 }
@@ -73,25 +52,20 @@ fn print_taken<D: Motor>(
 ) -> io::Result<()> {
     match taken {
         Ok(None) => Ok(()),
-        Ok(Some(report)) => print_cut(rt, number, report, drive),
+        Ok(Some(report)) => {
+            let coils = Coils(drive.coil_byte());
+            let made = Made { report, coils };
+            println!(rt; "line {number}: {made}")
+        }
         Err(refusal) => print_refusal(rt, number, refusal),
     }
 }
 
 fn print_end<D: Motor>(rt: &HostRuntime, tally: Tally, drive: &D) -> io::Result<()> {
     let place = drive.place();
-    print!(rt; "place {place}")?;
-    print_coils(rt, drive)?;
-    let Tally {
-        refused: _,
-        asked,
-        arrived,
-    } = tally;
-    if arrived == asked {
-        println!(rt; "every cut ended where it was sent")
-    } else {
-        println!(rt; "{arrived} of {asked} cuts ended where they were sent")
-    }
+    let coils = Coils(drive.coil_byte());
+    println!(rt; "place {place}{coils}")?;
+    println!(rt; "{tally}")
 }
 
 // What is left of a script after the line that names the bed, and how to show it.
