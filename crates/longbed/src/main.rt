@@ -17,14 +17,12 @@ use std::env;
 use std::io::Read;
 use std::process::ExitCode;
 
-// Whether every tick is to be shown.
+// Whether every tick is to be shown: where there is an argument, since there is no other.
 fn every_tick(rt: &HostRuntime) -> anyhow::Result<bool> {
-    let mut shown = false;
-    for word in env::args(rt)?.skip(1) {
+    env::args(rt)?.skip(1).try_fold(false, |_, word| {
         ensure!(word.as_str() == "--ticks", "usage: longbed [--ticks]");
-        shown = true;
-    }
-    Ok(shown)
+        Ok(true)
+    })
 }
 
 fn main(rt: HostRuntime) -> anyhow::Result<ExitCode> {
