@@ -1,8 +1,8 @@
 -- The steps of the loop over the words of rows. Assumes nothing.
-use Rattle.std.proofs.Common.{◌≡◌, ℕ, suc, ◌-◌, ◌<◌, List, [], ◌∷◌, ◌++◌, length, drop, Ok, Err, Result, sym, refl, ap, ◌∙◌, arith}
+use Rattle.std.proofs.Common.{◌≡◌, ℕ, suc, ◌-◌, ◌<◌, List, [], ◌∷◌, ◌++◌, length, drop, Ok, Err, Result, sym, ap, ◌∙◌, arith}
 use Rattle.std.proofs.lemmas.List.{length_push}
 use Rattle.profile.specs.declared.row.Row.{Row}
-use Rattle.bed.specs.Words.{natural, first_as, next}
+use Rattle.bed.specs.Words.{natural, first_as}
 use Rattle.bed.specs.declared.fault.LineFault.{LineFault}
 use Rattle.bed.specs.declared.fault.LineFault.TheVariants.{ExtraWord}
 use Rattle.script.specs.Lines.{row_of, rows_after}
