@@ -3,7 +3,7 @@ ghost use Rattle.std.specs.Prelude.{◌≡◌};
 ghost use Rattle.calls.specs.declared.fault.ReadFault.TheVariants as fault;
 
 use bed::fault::LineFault;
-use std::alloc::AllocError;
+use std::alloc::AllocFailed;
 use thiserror::Error;
 
 // The line's own fault, or no memory for what it says.
@@ -15,7 +15,6 @@ pub enum ReadFault {
     NoMemory,
 }
 
-// By hand, since a derived `From` has no contract: it would be unknown which fault a `?` of the reading hands up.
 impl From<LineFault> for ReadFault {
     ghost from_gives = { λ e r. r ≡ fault.Line e };
 
@@ -24,10 +23,10 @@ impl From<LineFault> for ReadFault {
     }
 }
 
-impl From<AllocError> for ReadFault {
+impl<T: Drop> From<AllocFailed<T>> for ReadFault {
     ghost from_gives = { λ _ r. r ≡ fault.NoMemory };
 
-    fn from(_fault: AllocError) -> ReadFault {
+    fn from(_fault: AllocFailed<T>) -> ReadFault {
         ReadFault::NoMemory
     }
 }

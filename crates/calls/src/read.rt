@@ -30,9 +30,11 @@ fn ticks(mut words: Words) -> Result<u32, LineFault>
 fn block(heap: Global, words: Words) -> Result<Vec<i16>, ReadFault>
     ensures { Read vec_items (block_of (words_left words.entry)) result }
 {
-    words
-        .map(|word| i16::from_word(word).map_err(ReadFault::Line))
-        .try_collect(heap)
+    let mut block = Vec::new(heap);
+    for word in words {
+        block.push(i16::from_word(word)?)?;
+    }
+    Ok(block)
 }
 
 // What a command says with the words after it.

@@ -8,6 +8,7 @@ use crate::fault::DriveFault;
 // The farthest position in either direction.
 pub const FARTHEST: u32 = 8_388_607;
 
+// No type around an `i32` that is one: blocks, scripts and readings say plain numbers, and what stands in a drive is one by its law `placed`.
 pub fn is_position(p: i32) -> bool
     ensures { result ≡ is_position p }
 {

@@ -8,7 +8,8 @@ use crate::fault::DriveFault;
 use crate::token::StepToken;
 use crate::traits::Drive;
 
-// Sends a drive the whole steps of `gone` millisteps that were not sent before, and answers them.
+// Sends a drive the whole steps of `gone` millisteps that were not sent before, and answers them. The token is the struct of the three
+// numbers: another one around them would only be taken apart to make it.
 pub fn send<D: Drive>(
     drive: &mut D,
     gone: u64,

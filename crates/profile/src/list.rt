@@ -5,6 +5,7 @@ use crate::row::Row;
 use std::marker::Model;
 
 // At most sixteen rows, the first `count` of the array. The places past them hold no steps and no speed, so equal lists have equal fields.
+// No heap, by a rule of the project. With an `ArrayVec` the lines of a script would not be `Copy`, as whoever holds them may count on.
 #[derive(Clone, Copy, PartialEq, Eq, Debug)]
 pub struct RowList {
     rows: [Row; 16],
@@ -39,7 +40,7 @@ impl RowList {
         }
     }
 
-    // These rows, unless they are too many.
+    // These rows, unless they are too many: no `TryFrom`, whose error would say no more than `None`. (With `try_for_each` or `copy_from_slice` in place of the loop the proof did not close.)
     pub fn of(rows: &[Row]) -> Option<Self>
         ensures { result ≡ (if nat_le (length rows.now) 16 then Some rows.now else None) }
     {

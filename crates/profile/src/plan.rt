@@ -9,7 +9,8 @@ mod calls;
 mod make;
 mod rows;
 
-// The first `count` of `rows` are the plan's; no `RowList`, since a generic struct over a profile gets no proof with a model inside.
+// The first `count` of `rows` are the plan's. With a `RowList` in their place a function that has a profile over a profile gets no proof,
+// unless it names each type on the way itself (tried: no model may lie so deep in a type argument).
 // `steps` and `top` are kept so that nothing goes over the rows again.
 #[derive(Clone, Copy)]
 pub struct Plan {

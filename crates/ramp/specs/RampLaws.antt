@@ -43,35 +43,44 @@ pub idle_greatest : (o : Option PlanMeans) (asked gone last : ℕ) → gone ≡ 
 idle_greatest None asked gone last e = grind arith
 idle_greatest (Some p) asked gone last e = grind (arith, braking_low p.start p.decel 0)
 
-pub idle_ticks : (o : Option PlanMeans) (asked gone last : ℕ) → gone ≡ asked → Ticked (ramping o asked gone last) 0 (ramping o asked gone last)
-idle_ticks None asked gone last e = grind arith
-idle_ticks (Some p) asked gone last e = grind (arith, left_done p asked gone last)
+pub idle_ticks : (m : ProfileMeans) → m.left ≡ 0 → Ticked m 0 m
+idle_ticks m z = grind arith
 
 pub begins : (p : PlanMeans) → Lawful p → (m : ProfileMeans) → m.lag ≡ 0 → Begun m p (ramping (Some p) (1000 * plan_steps p) 0 0)
 begins p l m e = grind (arith, left_short p l (1000 * plan_steps p) (omega arith) 0 0)
 
--- while something is left, a tick takes the greatest advance that may be
-pub ticks :
+module _ (p : PlanMeans) (l : Lawful p) (asked gone last : ℕ) (w : asked ≤ 1000 * plan_steps p) (t : last ≤ plan_top p) where
+  -- while something is left, a tick takes the greatest advance that may be
+  pub ticks :
+      (u : ℕ) → gone < asked → Greatest (MayAdvance (Some p) asked gone last) u
+      → Ticked (ramping (Some p) asked gone last) u (ramping (Some p) asked (gone + u) u)
+  ticks u h g =
+      let e : u ≡ next_advance p asked gone last = greatest_next (Some p) asked gone last u g in
+      grind (arith, left_some p asked gone last h, left_tick p l asked w gone last u h e, speed_top p.rows gone)
+
+  -- a brake asks for the braking distance
+  pub brakes :
+      gone + braking_of (Some p) last ≤ asked
+      → Braked (ramping (Some p) asked gone last) (ramping (Some p) (gone + braking_of (Some p) last) gone last)
+  brakes h =
+      record {
+        after = refl;
+        less = h;
+        kept = omega arith;
+        sooner = left_braked p l.slows.0 asked gone last h;
+        soon = omega (arith, left_brake p l.slows.0 gone last (plan_top p) t);
+        blank = λ e. cc;
+      }
+
+-- the same of a ramp's plan, if it has one yet
+pub ticks_of :
     (o : Option Plan) (asked gone last u : ℕ) → asked ≤ way_of o → last ≤ fastest (plan_of o) → gone < asked → Greatest (MayAdvance (plan_of o) asked gone last) u
     → Ticked (ramping (plan_of o) asked gone last) u (ramping (plan_of o) asked (gone + u) u)
-ticks None asked gone last u w t h g = absurd (omega arith)
-ticks (Some q) asked gone last u w t h g =
-    let p : PlanMeans = plan_means q in
-    let e : u ≡ next_advance p asked gone last = greatest_next (Some p) asked gone last u g in
-    grind (arith, left_some p asked gone last h, left_tick p (lawful q) asked w gone last u h e, speed_top p.rows gone)
+ticks_of None asked gone last u w t h g = absurd (omega arith)
+ticks_of (Some q) asked gone last u w t h g = ticks (plan_means q) (lawful q) asked gone last w t u h g
 
--- a brake asks for the braking distance
-pub brakes :
+pub brakes_of :
     (o : Option Plan) (asked gone last : ℕ) → asked ≤ way_of o → last ≤ fastest (plan_of o) → gone + braking_of (plan_of o) last ≤ asked
     → Braked (ramping (plan_of o) asked gone last) (ramping (plan_of o) (gone + braking_of (plan_of o) last) gone last)
-brakes None asked gone last w t h = grind (arith, braking_low 0 0 0)
-brakes (Some q) asked gone last w t h =
-    let p : PlanMeans = plan_means q in
-    record {
-      after = refl;
-      less = h;
-      kept = omega arith;
-      sooner = left_braked p q.slows.0 asked gone last h;
-      soon = omega (arith, left_brake p q.slows.0 gone last (plan_top p) t);
-      blank = λ e. cc;
-    }
+brakes_of None asked gone last w t h = grind (arith, braking_low 0 0 0)
+brakes_of (Some q) asked gone last w t h = brakes (plan_means q) (lawful q) asked gone last w t h

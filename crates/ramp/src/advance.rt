@@ -9,19 +9,16 @@ use profile::plan::Plan;
 
 // The greatest advance that may be in a row of this speed, with `rest` millisteps to go and the advance `last` before.
 pub(crate) fn next_advance(plan: &Plan, row_speed: u32, rest: u64, last: u32) -> u32
-    requires row { row_speed ≤ 200000 }
-    requires last { last ≤ 200000 }
     ensures { Greatest (May (plan_means plan.now).start (plan_means plan.now).accel (plan_means plan.now).decel row_speed last rest) result }
 {
     let slow = row_speed.max(last.saturating_sub(plan.decel()));
-    let eased = plan.start().max(last + plan.accel());
+    let eased = plan.start().max(last.saturating_add(plan.accel()));
     Brake::from(plan).greatest(slow.min(eased), rest)
 }
 
 impl Brake {
     // Whether a speed and the braking from it go at most `rest` millisteps.
     fn stops(self, speed: u32, rest: u64) -> bool
-        requires { speed ≤ 200000 }
         ensures { IsTrue result ↔ (speed + braking self.start self.decel speed ≤ rest) }
     {
         speed as u64 + self.distance(speed) <= rest
@@ -31,7 +28,6 @@ impl Brake {
     // left with each turn, so a limit below 2 to the 18 has 18 turns at most. It is a loop, since the library's `partition_point` searches
     // a slice.
     fn greatest(self, limit: u32, rest: u64) -> u32
-        requires { limit ≤ 200000 }
         ensures { Greatest (λ u. (u ≤ limit) × (u + braking self.start self.decel u ≤ rest)) result }
     {
         if self.stops(limit, rest) {

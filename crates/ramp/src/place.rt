@@ -16,7 +16,7 @@ impl Place {
     ghost use Rattle.ramp.specs.Places.{IsPlace};
 
     // The speed of the row that holds the millistep after the first `gone`. The rows before it are passed: `passed` is kept from tick
-    // to tick, so the loop counts it on, and mostly looks at one row.
+    // to tick, so the loop mostly looks at one row.
     pub(crate) fn speed_after(&mut self, rows: &[Row], gone: u64) -> u32
         requires here { IsPlace rows.now gone self.old }
         requires held { gone < 1000 * steps_of rows.now }
@@ -24,12 +24,12 @@ impl Place {
         ensures here { IsPlace rows.now gone self.new }
         ensures speed { result ≡ speed_at rows.now gone }
     {
-        for row in &rows[self.passed..] {
+        for (i, row) in rows[self.passed..].iter().enumerate() {
             let end = self.before + 1000 * row.steps as u64;
             if gone < end {
+                self.passed += i;
                 return row.speed;
             }
-            self.passed += 1;
             self.before = end;
         }
         unreachable!()

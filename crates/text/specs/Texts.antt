@@ -1,6 +1,6 @@
 -- A text is a list of bytes. A comment begins at the first '#' (35) and goes to the end.
 -- Words are the longest runs of bytes other than blanks: space (32), tab (9) and carriage return (13).
-use Rattle.std.specs.Prelude.{ℕ, Bool, cond, not, ◌||◌, List, [], ◌∷◌, ◌++◌, Some, None, Option, ◌==◌}
+use Rattle.std.specs.Prelude.{ℕ, Bool, cond, not, ◌||◌, List, [], ◌∷◌, ◌++◌, ◌==◌}
 use Rattle.text.specs.declared.text.Words.{Words}
 
 -- what stands before the comment
@@ -27,11 +27,6 @@ words_from run (b ∷ bs) = cond (is_blank b) (ended run (words_from [] bs)) (wo
 
 abbrev pub words_of : List ℕ → List (List ℕ)
 words_of bs = words_from [] bs
-
--- the first word, where there is one
-abbrev pub first_of : List (List ℕ) → Option (List ℕ)
-first_of [] = None
-first_of (w ∷ ws) = Some w
 
 -- the words that are left
 abbrev pub words_left : Words → List (List ℕ)

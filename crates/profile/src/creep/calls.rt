@@ -52,6 +52,7 @@ impl Profile for Creep {
         self.progress.ask(0);
     }
 
+    // These three are the progress's, as of a ramp: a trait between `Profile` and the two would be longer than what it saves.
     fn gone(&self) -> u64 {
         self.progress.gone()
     }

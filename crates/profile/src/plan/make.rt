@@ -11,7 +11,8 @@ use crate::rates::Rates;
 use crate::row::Row;
 
 impl Plan {
-    // A plan of these rows, or the first reason why there is none.
+    // A plan of these rows, or the first reason why there is none. Start, rates and rows are passed one by one: a struct of them would be
+    // a plan without its bounds.
     pub fn new(start: u32, rates: Rates, rows: &[Row]) -> Result<Plan, PlanFault>
         ensures { Made (record { start = start; accel = rates.accel; decel = rates.decel; rows = rows.now }) result }
     {

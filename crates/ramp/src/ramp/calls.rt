@@ -81,6 +81,7 @@ impl Profile for Ramp {
         }
     }
 
+    // These three are the progress's, as of a creep: a trait between `Profile` and the two would be longer than what it saves.
     fn gone(&self) -> u64 {
         self.progress.gone()
     }

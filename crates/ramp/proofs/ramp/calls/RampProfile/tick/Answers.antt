@@ -1,24 +1,12 @@
 use Rattle.std.proofs.Common.{◌≡◌, Some, arith}
 use Rattle.std.proofs.lemmas.Grind.{common_steps}
 use Rattle.profile.specs.Plans.{plan_means, plan_of}
-use Rattle.profile.specs.PlanLaws.{lawful_of, top_bound}
 use Rattle.ramp.specs.Advances.{Greatest}
 use Rattle.ramp.specs.Ramping.{MayAdvance}
 use Rattle.ramp.specs.Speeds.{speed_at}
-use Rattle.ramp.specs.RampLaws.{greatest_next, idle_greatest, idle_ticks, ticks}
-use Rattle.ramp.specs.SpeedLaws.{speed_top}
+use Rattle.ramp.specs.RampLaws.{greatest_next, idle_greatest, idle_ticks, sound, ticks_of}
 use Rattle.ramp.proofs.ramp.calls.RampProfile.tick.Goals as goal
 use Rattle.ramp.proofs.ramp.calls.RampProfile.tick.Goals.{After-go}
-
-pub next_advance-advance-requires-clause-row : goal.next_advance-advance-requires-clause-row
-next_advance-advance-requires-clause-row c =
-    let o = c.args.self.now.progress.plan in
-    grind (arith, speed_top c.rows.result.now c.gone.result, top_bound (plan_of o) (lawful_of o))
-
-pub next_advance-advance-requires-clause-last : goal.next_advance-advance-requires-clause-last
-next_advance-advance-requires-clause-last c =
-    let o = c.args.self.now.progress.plan in
-    omega (arith, c.args.self.now.slow, top_bound (plan_of o) (lawful_of o))
 
 module _ (c : After-go) where
   greatest : Greatest (MayAdvance (plan_of c.args.self.now.progress.plan) c.args.self.now.progress.asked c.args.self.now.progress.gone c.args.self.now.last) c.go.result
@@ -34,7 +22,7 @@ returns-then-rest-eq0 c =
     let m = a.progress in
     let e : m.gone ≡ m.asked = omega (arith, m.reached) in
     record {
-      ticked = idle_ticks (plan_of m.plan) m.asked m.gone a.last e;
+      ticked = idle_ticks _ ((sound m.plan m.asked m.gone a.last m.reached m.within).over e);
       advanced = grind (arith, idle_greatest (plan_of m.plan) m.asked m.gone a.last e, greatest_next (plan_of m.plan) m.asked m.gone a.last 0);
     }
 
@@ -43,7 +31,7 @@ invariant_of-self c =
     let a = c.args.self.now in
     let m = a.progress in
     let g = greatest c in
-    let t = ticks m.plan m.asked m.gone a.last c.go.result m.within a.slow (omega arith) g in
+    let t = ticks_of m.plan m.asked m.gone a.last c.go.result m.within a.slow (omega arith) g in
     grind (arith, common_steps, t)
 
 pub returns : goal.returns
@@ -51,7 +39,7 @@ returns c =
     let a = c.args.self.now in
     let m = a.progress in
     let g = greatest (goal.at.returns c).After-go in
-    let t = ticks m.plan m.asked m.gone a.last c.go.result m.within a.slow (omega arith) g in
+    let t = ticks_of m.plan m.asked m.gone a.last c.go.result m.within a.slow (omega arith) g in
     record {
       ticked = grind (arith, t);
       advanced = grind (arith, greatest_next (plan_of m.plan) m.asked m.gone a.last c.go.result);
