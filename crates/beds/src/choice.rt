@@ -26,7 +26,7 @@ pub trait OnBed: Sized {
 }
 
 fn smooth<P: Profile>(below: P, length: u32) -> Smoothed<P>
-    ensures { (lag : ℕ) → Fresh lag (P.means below) → Fresh (smoothed_lag lag length) (smooth_means P.means result) }
+    ensures { (lag : ℕ) → Fresh lag (P.means below) → Fresh (smoothed_lag lag length) (smooth_means result) }
 {
     Smoothed::new(below, length as usize)
 }

@@ -1,10 +1,9 @@
 pub mod Lengths
 pub mod Smoothing
 pub mod Standings
-pub mod WindowOf
 pub mod Windows
+pub mod WindowLaws
 pub mod SmoothLaws
 pub mod Pushes
 pub mod Keeps
-pub mod WindowLaws
 pub mod Rings

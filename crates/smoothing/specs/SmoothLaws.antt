@@ -9,7 +9,7 @@ use Rattle.smoothing.specs.Windows.{mean_of, pushed, from_other, ticks_to_equal,
 use Rattle.smoothing.specs.Standings.{standing_of}
 use Rattle.smoothing.specs.Smoothing.{left_over, smoothing}
 use Rattle.smoothing.specs.Pushes.{length_pushed, other_le, other_pushed, same_pushed}
-use Rattle.smoothing.specs.Keeps.{kept_some, kept_pushed, mean_le, mean_alike, mean_unlike, mean_near, mean_replicate}
+use Rattle.smoothing.specs.Keeps.{kept_pushed, mean_le, mean_alike, mean_unlike, mean_near, mean_replicate}
 
 -- with nothing left below, and with something
 left_at_none : (l : ℕ) (ws : List ℕ) → l ≡ 0 → left_over l ws ≡ ticks_to_equal ws
@@ -75,11 +75,11 @@ module _ (m : ProfileMeans) (s : Sound m) where
 
 -- a new plan below, with zeros kept
 pub begun_smooth :
-    (m m' : ProfileMeans) (p : PlanMeans) (ws ws' : List ℕ) → Kept (fastest m.plan) m.gone ws → Begun m p m'
-    → ws' ≡ replicate (length ws) 0 → Begun (smoothing m ws) p (smoothing m' ws')
-begun_smooth m m' p ws ws' k b e =
+    (m m' : ProfileMeans) (p : PlanMeans) (ws ws' : List ℕ) → 0 < length ws → Begun m p m' → ws' ≡ replicate (length ws) 0
+    → Begun (smoothing m ws) p (smoothing m' ws')
+begun_smooth m m' p ws ws' some b e =
     let n : length ws' ≡ length ws = ap length e ∙ length-replicate (length ws) 0 in
-    let y : mean_of ws' ≡ 0 = ap mean_of e ∙ mean_replicate (length ws) 0 (kept_some (fastest m.plan) m.gone ws k) in
+    let y : mean_of ws' ≡ 0 = ap mean_of e ∙ mean_replicate (length ws) 0 some in
     record {
       after =
           ap (λ x. record { plan = x.plan; asked = x.asked; gone = mean_of ws'; left = left_over m'.left ws'; lag = x.lag + (length ws' - 1) }) b.after

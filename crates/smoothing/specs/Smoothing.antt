@@ -1,10 +1,9 @@
 -- Smoothing over a profile: gone is the mean of the last W values of gone below. The plan and asked are those below, and the lag
 -- is W − 1 more. Left is left below + W − 1, or, once nothing is left below, the ticks until all kept values are equal.
-use Rattle.std.specs.Prelude.{ℕ, ◌+◌, ◌-◌, Bool, cond, List, length, ◌==◌}
+use Rattle.std.specs.Prelude.{ℕ, ◌+◌, ◌-◌, cond, List, length, ◌==◌}
 use Rattle.profile.specs.Profiles.{ProfileMeans}
-use Rattle.smoothing.specs.Standings.{standing_of}
+use Rattle.profile.specs.declared.traits.Profile.{Ghosts}
 use Rattle.smoothing.specs.Windows.{mean_of, ticks_to_equal}
-use Rattle.smoothing.specs.WindowOf.{in_step, kept_at}
 use Rattle.smoothing.specs.declared.smoothed.Smoothed.{Smoothed}
 
 -- the ticks left, with so many left below; the laws of a profile leave it no other value, since left falls by 1 a tick and is 0
@@ -23,17 +22,13 @@ smoothing m ws =
       lag = m.lag + (length ws - 1);
     }
 
--- whether the window is in step with the profile below, which f gives a meaning
-abbrev pub step_over : {P : Type 0} → (P → ProfileMeans) → Smoothed P → Bool
-step_over f s = in_step s.window (standing_of (f s.below))
-
--- the values kept
-abbrev pub kept_over : {P : Type 0} → (P → ProfileMeans) → Smoothed P → List ℕ
-kept_over f s = kept_at s.window (standing_of (f s.below))
+-- the values kept, newest first
+abbrev pub kept_over : {P : Type 0} {G : Ghosts P} → Smoothed P G → List ℕ
+kept_over s = s.window.kept
 
 -- W
-abbrev pub length_over : {P : Type 0} → (P → ProfileMeans) → Smoothed P → ℕ
-length_over f s = length (kept_over f s)
+abbrev pub length_over : {P : Type 0} {G : Ghosts P} → Smoothed P G → ℕ
+length_over s = length (kept_over s)
 
-abbrev pub smooth_means : {P : Type 0} → (P → ProfileMeans) → Smoothed P → ProfileMeans
-smooth_means f s = smoothing (f s.below) (kept_over f s)
+abbrev pub smooth_means : {P : Type 0} {G : Ghosts P} → Smoothed P G → ProfileMeans
+smooth_means {G = G} s = smoothing (G.means s.below) (kept_over s)

@@ -1,4 +1,5 @@
-// The last values of a number, 1 to 64 of them. A new value goes in the place of the oldest.
+// The last values of a number, 1 to 64 of them. A new value goes in the place of the oldest. The library's ring lies on the heap, which
+// no axis may use, so this one keeps the place itself.
 ghost use Rattle.std.specs.Prelude.{◌≡◌, ◌≤◌, length, replicate};
 ghost use Rattle.smoothing.specs.Lengths.{length_for};
 ghost use Rattle.smoothing.specs.Windows.{pushed, oldest};

@@ -6,7 +6,7 @@ use profile::traits::Profile;
 use std::marker::Model;
 
 // What a profile has gone, in millisteps, and its top.
-#[derive(Clone, Copy, PartialEq, Eq)]
+#[derive(Clone, Copy)]
 pub(crate) struct Standing {
     pub(crate) gone: u64,
     pub(crate) top: u32,
@@ -26,10 +26,10 @@ impl Model for Standing {
     ghost inverse = { λ m. record { gone = m.gone; top = m.top } };
 }
 
-impl Standing {
-    pub(crate) fn of<P: Profile>(profile: &P) -> Standing
-        ensures { result ≡ standing_of (P.Profile.means profile.now) }
-    {
+impl<P: Profile> From<&P> for Standing {
+    ghost from_gives = { λ profile standing. standing ≡ standing_of (P.Profile.means profile.now) };
+
+    fn from(profile: &P) -> Standing {
         Standing {
             gone: profile.gone(),
             top: profile.top(),

@@ -1,7 +1,6 @@
 // What a window does.
 ghost use Rattle.std.specs.Prelude.{◌≡◌, ◌+◌, ◌≤◌, length, replicate};
 ghost use Rattle.smoothing.specs.Lengths.{length_for};
-ghost use Rattle.smoothing.specs.WindowOf.{kept_at};
 ghost use Rattle.smoothing.specs.Windows.{mean_of, pushed};
 
 use super::Window;
@@ -53,24 +52,10 @@ impl Window {
         *self = Window::new(self.kept.len(), standing);
     }
 
-    // Brings it in step with a profile that stands so.
-    pub(crate) fn bring_in_step(&mut self, standing: Standing)
-        ensures kept { self.new.kept ≡ kept_at self.old standing }
-        ensures standing { self.new.standing ≡ standing }
+    // The mean of its values, rounded down.
+    pub(crate) fn mean(&self) -> u64
+        ensures { result ≡ mean_of self.now.kept }
     {
-        if self.standing != standing {
-            self.refill(standing);
-        }
-    }
-
-    // The mean of its values over such a profile, rounded down.
-    pub(crate) fn mean_over(&self, standing: Standing) -> u64
-        ensures { result ≡ mean_of (kept_at self.now standing) }
-    {
-        if self.standing == standing {
-            self.mean
-        } else {
-            standing.gone
-        }
+        self.mean
     }
 }
