@@ -1,4 +1,6 @@
-// A cut as it is asked for, and as it was made.
+// Cuts as they are asked for, and as they were made.
+use drive::direction::Direction;
+use profile::plan::Plan;
 use profile::rates::Rates;
 
 // To `target`, from the starting speed to `speed`, both in millisteps a tick.
@@ -8,6 +10,13 @@ pub struct Cut {
     pub start: u32,
     pub speed: u32,
     pub rates: Rates,
+}
+
+// A plan in one direction.
+#[derive(Clone, Copy)]
+pub struct Blend {
+    pub plan: Plan,
+    pub direction: Direction,
 }
 
 // Where a cut began, where it was sent and where it ended, the ticks and steps that it took, and its greatest advance in a tick.

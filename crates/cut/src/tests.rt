@@ -1,7 +1,7 @@
 // Whole cuts and blends on examples.
 use crate::fault::CutFault;
 use crate::make::{make_blend, make_cut};
-use crate::order::{Cut, Report};
+use crate::order::{Blend, Cut, Report};
 use crate::watch::Unwatched;
 use drive::direction::Direction;
 use drive::phase::PhaseDrive;
@@ -36,7 +36,7 @@ fn phase_blend(
     direction: Direction,
 ) -> Result<Result<Report, CutFault>, Fail> {
     let plan = Plan::new(900, RATES, rows)?;
-    Ok(make_blend(drive, creep, plan, direction, &mut Unwatched))
+    Ok(make_blend(drive, creep, Blend { plan, direction }, &mut Unwatched))
 }
 
 #[test]

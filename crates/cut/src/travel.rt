@@ -7,23 +7,24 @@ ghost use Rattle.profile.specs.Profiles.{Ticked};
 ghost use Rattle.cut.specs.Cuts.{Carried, blend_end};
 ghost use Rattle.cut.specs.Travels.{Ready};
 
-use crate::order::Report;
+use crate::order::{Blend, Report};
 use crate::watch::Watch;
 use drive::direction::Direction;
 use drive::fault::DriveFault;
 use drive::send::send;
 use drive::traits::Drive;
-use profile::plan::Plan;
 use profile::traits::Profile;
 
-// Where a plan leads that is travelled in one direction.
-pub(crate) fn end_of<D: Drive>(drive: &D, plan: &Plan, direction: Direction) -> i32
-    ensures { result ≡ blend_end (D.Drive.means drive.now) (plan_means plan.now) direction }
-{
-    drive.place() + direction.signed(plan.steps() as u64)
+impl Blend {
+    // Where it leads.
+    pub(crate) fn end<D: Drive>(&self, drive: &D) -> i32
+        ensures { result ≡ blend_end (D.Drive.means drive.now) (plan_means self.now.plan) self.now.direction }
+    {
+        drive.place() + self.direction.signed(self.plan.steps() as u64)
+    }
 }
 
-// One tick of the profile, and its advance; the steps that it makes due go to the drive.
+// One tick of the profile, and its advance; the steps that it makes due go to the drive. The advance is told also where the drive refuses.
 fn tick_once<D: Drive, P: Profile>(
     drive: &mut D,
     profile: &mut P,
@@ -37,29 +38,29 @@ fn tick_once<D: Drive, P: Profile>(
     (advance, send(drive, profile.gone(), sent, direction))
 }
 
-// Carries out a plan that the drive takes: begins it, and ticks until nothing is left.
+// Carries out a plan that the drive takes: begins it, and ticks until nothing is left. A `while`, since the number of ticks is not known
+// before, and an iterator of advances would keep the profile borrowed, which each turn asks how far it has gone.
 pub(crate) fn carry<D: Drive, P: Profile, W: Watch>(
     drive: &mut D,
     profile: &mut P,
-    plan: Plan,
-    direction: Direction,
+    blend: Blend,
     watch: &mut W,
 ) -> Report
-    requires { Ready D.Drive.G (D.Drive.means drive.old) (plan_means plan) direction }
-    ensures { Carried (plan_means plan) (blend_end (D.Drive.means drive.old) (plan_means plan) direction) (D.Drive.means drive.old) (P.Profile.means profile.old) result (D.Drive.means drive.new) (P.Profile.means profile.new) }
+    requires { Ready D.Drive.G (D.Drive.means drive.old) (plan_means blend.plan) blend.direction }
+    ensures { Carried (plan_means blend.plan) (blend_end (D.Drive.means drive.old) (plan_means blend.plan) blend.direction) (D.Drive.means drive.old) (P.Profile.means profile.old) result (D.Drive.means drive.new) (P.Profile.means profile.new) }
 {
     let from = drive.place();
-    let target = end_of(drive, &plan, direction);
+    let target = blend.end(drive);
+    let Blend { plan, direction } = blend;
     profile.begin(plan);
     let mut ticks: u64 = 0;
     let mut steps: u32 = 0;
     let mut peak = 0;
     while !profile.done() {
         let (advance, sent) = tick_once(drive, profile, direction);
-        let Ok(n) = sent else { unreachable() };
         watch.tell(advance);
         peak = advance.max(peak);
-        steps += n.unsigned_abs();
+        steps += sent.unwrap().unsigned_abs();
         ticks = ticks.saturating_add(1);
     }
     Report {

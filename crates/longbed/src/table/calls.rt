@@ -8,7 +8,7 @@ use super::Table;
 use crate::refusal::Refusal;
 use beds::motor::Motor;
 use cut::make::{make_blend, make_cut};
-use cut::order::{Cut, Report};
+use cut::order::{Blend, Cut, Report};
 use cut::watch::Watch;
 use drive::traits::Drive;
 use profile::plan::Plan;
@@ -74,8 +74,10 @@ impl<D: Motor, P: Profile> Table<D, P> {
         let report = make_blend(
             &mut self.drive,
             &mut self.profile,
-            plan,
-            asked.direction,
+            Blend {
+                plan,
+                direction: asked.direction,
+            },
             watch,
         )?;
         Ok(Some(report))

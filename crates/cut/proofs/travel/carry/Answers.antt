@@ -16,14 +16,14 @@ module _ (g : given.Over) (c : After-begin g) where
   abbrev d₀ : DriveMeans
   d₀ = g.D.Drive.means c.args.drive.now
 
-  departure : Departure g.D.Drive.G c.args.direction d₀ (plan_means c.args.plan) (g.P.Profile.means c.args.profile.now) (g.P.Profile.means c.begin.new.self)
+  departure : Departure g.D.Drive.G c.args.blend.direction d₀ (plan_means c.args.blend.plan) (g.P.Profile.means c.args.profile.now) (g.P.Profile.means c.begin.new.self)
   departure = record { ready = c.requires; placed = g.met.D.Drive.placed c.args.drive.now; begun = c.begin.ensures.begun }
 
   from_is : to_z w32 (of_z w32 c.place-from.result) ≡ d₀.place
   from_is = let f : SFits w32 c.place-from.result = search rules in to_z-of_z w32 _ f ∙ c.place-from.ensures
 
-  target_is : to_z w32 (of_z w32 c.end_of-target.result) ≡ blend_end d₀ (plan_means c.args.plan) c.args.direction
-  target_is = let f : SFits w32 c.end_of-target.result = search rules in to_z-of_z w32 _ f ∙ c.end_of-target.ensures
+  target_is : to_z w32 (of_z w32 c.end-target.result) ≡ blend_end d₀ (plan_means c.args.blend.plan) c.args.blend.direction
+  target_is = let f : SFits w32 c.end-target.result = search rules in to_z-of_z w32 _ f ∙ c.end-target.ensures
 
 pub loop-direction-init : goal.loop-direction-init
 loop-direction-init g c = sets_out (departure g c)
@@ -46,25 +46,25 @@ module _ (g : given.Over) (c : After-tick_once-advance g) where
   from = (g.D.Drive.means c.args.drive.now).place
 
   abbrev n : ℤ
-  n = signed c.args.direction (p'.gone / 1000 - p.gone / 1000)
+  n = signed c.args.blend.direction (p'.gone / 1000 - p.gone / 1000)
 
-  out : Departure g.D.Drive.G c.args.direction (g.D.Drive.means c.args.drive.now) (plan_means c.args.plan) (g.P.Profile.means c.args.profile.now) (g.P.Profile.means c.begin.new.self)
+  out : Departure g.D.Drive.G c.args.blend.direction (g.D.Drive.means c.args.drive.now) (plan_means c.args.blend.plan) (g.P.Profile.means c.args.profile.now) (g.P.Profile.means c.begin.new.self)
   out = record { ready = c.requires; placed = g.met.D.Drive.placed c.args.drive.now; begun = c.begin.ensures.begun }
 
-  turn : Turn c.args.direction from (g.P.Profile.means c.begin.new.self) d p p' c.loop-direction.ticks c.loop-direction.steps c.loop-direction.peak c.tick_once-advance.result.0
+  turn : Turn c.args.blend.direction from (g.P.Profile.means c.begin.new.self) d p p' c.loop-direction.ticks c.loop-direction.steps c.loop-direction.peak c.tick_once-advance.result.0
   turn = record { roll = c.loop-direction.invariant; ticked = c.tick_once-advance.ensures.ticked; sound = g.met.P.Profile.sound c.tick_once-advance.new.profile }
 
   some_left : p.left ≡ 0 → ⊥
   some_left = eqb-false p.left 0 (sym c.loop-direction-test.ensures)
 
-  landed : (c.tick_once-advance.result.1 ≡ Ok n) × (d' ≡ record { place = from +ℤ signed c.args.direction (p'.gone / 1000); tripped = false })
+  landed : (c.tick_once-advance.result.1 ≡ Ok n) × (d' ≡ record { place = from +ℤ signed c.args.blend.direction (p'.gone / 1000); tripped = false })
   landed =
       arrives out turn n c.tick_once-advance.result.1 d' refl
       (λ e. let o = c.tick_once-advance.ensures.sent.none e in (o.0, ap g.D.Drive.means o.1))
       c.tick_once-advance.ensures.sent.some
 
-pub unreachable-requires : goal.unreachable-requires
-unreachable-requires g c = let a = (goal.at.unreachable-requires g c).After-tick_once-advance in c.in_default.not-Ok (n g a) (landed g a).0
+pub unwrap-requires : goal.unwrap-requires
+unwrap-requires g c = let l = (landed g (goal.at.unwrap-requires g c).After-tick_once-advance).0 in grind (arith, l)
 
 -- the steps that the delivery answered
 module _ (g : given.Over) (c : After-unsigned_abs-steps g) where
@@ -73,10 +73,10 @@ module _ (g : given.Over) (c : After-unsigned_abs-steps g) where
 
   added : c.unsigned_abs-steps.result ≡ nat_abs (n g before)
   added =
-      let f : SFits w32 c.in-Ok.n = search rules in
+      let f : SFits w32 c.unwrap.result = search rules in
       let l = (landed g before).0 in
-      let same : c.in-Ok.n ≡ n g before = cc (c.in-Ok.is, l) in
-      c.unsigned_abs-steps.ensures.value ∙ ap nat_abs (to_z-of_z w32 c.in-Ok.n f ∙ same)
+      let same : c.unwrap.result ≡ n g before = grind (arith, c.unwrap.ensures, l) in
+      c.unsigned_abs-steps.ensures.value ∙ ap nat_abs (to_z-of_z w32 c.unwrap.result f ∙ same)
 
 pub overflow_add-steps : goal.overflow_add-steps
 overflow_add-steps g c =
