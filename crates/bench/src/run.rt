@@ -1,5 +1,5 @@
 // A plan, run to its end.
-ghost use Rattle.std.specs.Prelude.{◌≡◌, ◌*◌, ◌≤◌, None};
+ghost use Rattle.std.specs.Prelude.{◌≡◌, ◌*◌, ◌<◌, ◌≤◌, ◌∷◌, length, drop, None};
 ghost use Rattle.profile.specs.Plans.{plan_means, plan_steps, plan_top};
 ghost use Rattle.profile.specs.Profiles.{plan_ticks};
 
@@ -16,6 +16,18 @@ pub struct Outcome {
     pub sum: u64,
 }
 
+impl Outcome {
+    // Writes the number of ticks and then the sum over the advances to the front of `out`, where both have room.
+    pub fn tell(&self, out: &mut [u64])
+        ensures short { length out.old < 2 → out.new ≡ out.old }
+        ensures told { 2 ≤ length out.old → out.new ≡ self.now.ticks ∷ self.now.sum ∷ drop 2 out.old }
+    {
+        if let Some(front) = out.first_chunk_mut::<2>() {
+            *front = [self.ticks, self.sum];
+        }
+    }
+}
+
 impl fmt::Display for Outcome {
     fn fmt<W: fmt::Write>(&self, f: &mut fmt::Formatter<W>) -> fmt::Result {
         let Outcome {
@@ -29,7 +41,9 @@ impl fmt::Display for Outcome {
 }
 
 // Begins the plan and ticks until nothing is left, with a brake after so many ticks, if any. It takes no more ticks than the plan may
-// take, and without a brake every millistep of the plan has gone.
+// take, and without a brake every millistep of the plan has gone. A loop of its own beside that of a cut: one for both would take a trait
+// for what a turn does, sums and brakes here, sends and tells there, with a law for what it leaves. A `while`, as there: the number of
+// ticks is not known before, and an iterator of advances would keep the profile borrowed, which a turn may brake.
 pub fn run_plan<P: Profile>(profile: &mut P, plan: Plan, braked: Option<u64>) -> Outcome
     ensures over { (P.Profile.means profile.new).left ≡ 0 }
     ensures gone { braked ≡ None → (P.Profile.means profile.new).gone ≡ 1000 * plan_steps (plan_means plan) }

@@ -33,12 +33,16 @@ fn runs_with_and_without_a_brake(rt: HostRuntime) -> Result<(), Fail> {
 
 #[test]
 fn flat_rows(rt: HostRuntime) {
+    assert_eq!(rt; run_flat(&mut Creep::new(), 300, RATES, &[2, 900, 1]), None);
+    assert_eq!(rt; run_flat(&mut Creep::new(), 300, RATES, &[2, 200]), None);
     let mut out = [5; 3];
-    run_flat(&mut Creep::new(), 300, RATES, &[2, 900, 1], &mut out);
-    run_flat(&mut Creep::new(), 300, RATES, &[2, 200], &mut out);
-    run_flat(&mut Creep::new(), 300, RATES, &[2, 900], &mut out[2..]);
+    if let Some(outcome) = run_flat(&mut Creep::new(), 300, RATES, &[2, 900]) {
+        outcome.tell(&mut out[2..]);
+    }
     assert_eq!(rt; out, [5, 5, 5]);
-    run_flat(&mut Creep::new(), 300, RATES, &[1, 900], &mut out);
+    if let Some(outcome) = run_flat(&mut Creep::new(), 300, RATES, &[1, 900]) {
+        outcome.tell(&mut out);
+    }
     assert_eq!(rt; out, [4, 9_235_000, 5]);
     assert!(rt; plan_of(300, RATES, &[2, 900]).is_some());
     assert!(rt; plan_of(300, RATES, &[]).is_none());

@@ -19,8 +19,9 @@ pub extern "C" fn longbed_ramp(start: u32, accel: u32, decel: u32, rows: &[u32],
     ensures refused { (e : PlanFault) → plan_fault (plan_in start accel decel rows.now) ≡ Some e → out.new ≡ out.old }
     ensures short { length out.old < 2 → out.new ≡ out.old }
 {
-    let mut profile = Ramp::new();
-    run_flat(&mut profile, start, Rates { accel, decel }, rows, out);
+    if let Some(outcome) = run_flat(&mut Ramp::new(), start, Rates { accel, decel }, rows) {
+        outcome.tell(out);
+    }
 }
 
 // The same under a smoothing over the last `window` ticks, 1 to 64: 0 counts as 1, and more as 64.
@@ -37,5 +38,7 @@ pub extern "C" fn longbed_smoothed(
     ensures short { length out.old < 2 → out.new ≡ out.old }
 {
     let mut profile = Smoothed::new(Ramp::new(), window as usize);
-    run_flat(&mut profile, start, Rates { accel, decel }, rows, out);
+    if let Some(outcome) = run_flat(&mut profile, start, Rates { accel, decel }, rows) {
+        outcome.tell(out);
+    }
 }

@@ -3,19 +3,19 @@ ghost use Rattle.std.specs.Prelude.{◌≡◌, Some, None, MatchResult};
 ghost use Rattle.profile.specs.Plans.{plan_fault};
 ghost use Rattle.trials.specs.Trials.{plan_asked};
 
-use bench::flat::rows_of;
 use bench::run::{Outcome, run_plan};
 use profile::fault::PlanFault;
-use profile::list::RowList;
 use profile::plan::Plan;
 use profile::rates::Rates;
+use profile::row::Row;
 use ramp::ramp::Ramp;
 use smoothing::smoothed::Smoothed;
 use std::alloc::{AllocError, Global};
 use text::number::natural;
 use text::text::Words;
 
-// The numbers of a line; a word that is no number counts as 0, and more than 37 words are left out.
+// The numbers of a line; a word that is no number counts as 0, and more than 37 words are left out. `tools/trials.py`, which writes the
+// lines, writes none such.
 fn numbers(alloc: Global, text: &[u8]) -> Result<Vec<u32>, AllocError> {
     Words::of(text)
         .take(37)
@@ -24,13 +24,13 @@ fn numbers(alloc: Global, text: &[u8]) -> Result<Vec<u32>, AllocError> {
 }
 
 // The smoothing's length, if there is a smoothing, the numbers of a plan, and the tick after which it is braked, if it is.
-#[derive(Clone, Copy)]
+#[derive(Drop)]
 pub struct Trial {
     length: Option<u32>,
     start: u32,
     rates: Rates,
     braked: Option<u32>,
-    rows: RowList,
+    rows: Vec<Row>,
 }
 
 impl Trial {
@@ -40,6 +40,10 @@ impl Trial {
         let number = |place: usize| numbers.get(place).copied().unwrap_or(0);
         let above_zero = |place: usize| Some(number(place)).filter(|n| *n != 0);
         let (pairs, _) = numbers.get(5..).unwrap_or(&[]).as_chunks::<2>();
+        let rows = pairs
+            .iter()
+            .map(|&[steps, speed]| Row { steps, speed })
+            .collect(alloc)?;
         Ok(Trial {
             length: above_zero(0),
             start: number(1),
@@ -48,7 +52,7 @@ impl Trial {
                 decel: number(3),
             },
             braked: above_zero(4),
-            rows: rows_of(pairs).unwrap_or(RowList::new()),
+            rows,
         })
     }
 
