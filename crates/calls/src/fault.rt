@@ -15,6 +15,7 @@ pub enum ReadFault {
     NoMemory,
 }
 
+// By hand, since a derived `From` has no contract: it would be unknown which fault a `?` of the reading hands up.
 impl From<LineFault> for ReadFault {
     ghost from_gives = { λ e r. r ≡ fault.Line e };
 

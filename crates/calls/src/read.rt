@@ -26,7 +26,8 @@ fn ticks(mut words: Words) -> Result<u32, LineFault>
     }
 }
 
-// The words of a block, as many as there are.
+// The words of a block, as many as there are. A `for` and no `try_collect`: what it collects would be proved too, but by a hundred lines
+// on how, where the loop needs an invariant of three.
 fn block(heap: Global, words: Words) -> Result<Vec<i16>, ReadFault>
     ensures { Read vec_items (block_of (words_left words.entry)) result }
 {
