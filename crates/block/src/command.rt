@@ -21,8 +21,8 @@ pub enum Command {
     Run,
 }
 
-// The command whose bit alone rises; none where no bit does. A word may command nothing, so this is no `TryFrom`; and with the
-// bits as discriminants the same match would stand here.
+// The command whose bit alone rises; none where no bit does. No `TryFrom`: that nothing is commanded is an answer and no refusal. With
+// the bits as discriminants the same match would stand here.
 pub fn commanded(rising: u16) -> Result<Option<Command>, Refusal>
     ensures { result ≡ commanded_of rising }
 {

@@ -1,6 +1,7 @@
 // A block: ten words, each in its place.
 ghost use Rattle.std.specs.Prelude.{◌≡◌};
 ghost use Rattle.block.specs.Frames.{block_of, is_dwell_of, direction_of, clears_trip_of};
+ghost use Rattle.block.specs.Words.{meets};
 
 use crate::pair::Pair;
 use crate::refusal::Refusal;
@@ -8,6 +9,11 @@ use drive::direction::Direction;
 
 // The bits of word 0 that have no meaning: 5 to 8, 14 and 15.
 const RESERVED: u16 = 0xc1e0;
+
+// The bits of word 1 that have one.
+const DWELL: u16 = 0x0001;
+const COUNTERCLOCKWISE: u16 = 0x0002;
+const CLEAR_TRIP: u16 = 0x0400;
 
 #[derive(Clone, Copy, PartialEq, Eq, Debug)]
 pub struct Block {
@@ -25,11 +31,13 @@ pub struct Block {
     pub dwell: i16,
 }
 
-impl Block {
-    // The block that these words are, if they are ten and have no bit without a meaning.
-    pub fn read(words: &[i16]) -> Result<Block, Refusal>
-        ensures { result ≡ block_of words.now }
-    {
+// The block that some words are, if they are ten and have no bit without a meaning.
+impl TryFrom<&[i16]> for Block {
+    type Error = Refusal;
+
+    ghost try_from_gives = { λ words answer. answer ≡ block_of words.now };
+
+    fn try_from(words: &[i16]) -> Result<Block, Refusal> {
         let &[
             command,
             options,
@@ -65,19 +73,28 @@ impl Block {
             dwell,
         })
     }
+}
+
+impl Block {
+    // Whether a bit of word 1 is set.
+    fn has(self, option: u16) -> bool
+        ensures { result ≡ meets option self.options }
+    {
+        self.options & option != 0
+    }
 
     // Whether a Run is a dwell move, and no blend.
     pub fn is_dwell(self) -> bool
         ensures { result ≡ is_dwell_of self }
     {
-        self.options & 0x0001 != 0
+        self.has(DWELL)
     }
 
     // Where a blend goes: clockwise unless its bit is set.
     pub fn direction(self) -> Direction
         ensures { result ≡ direction_of self }
     {
-        if self.options & 0x0002 != 0 {
+        if self.has(COUNTERCLOCKWISE) {
             Direction::Ccw
         } else {
             Direction::Cw
@@ -88,6 +105,6 @@ impl Block {
     pub fn clears_trip(self) -> bool
         ensures { result ≡ clears_trip_of self }
     {
-        self.options & 0x0400 != 0
+        self.has(CLEAR_TRIP)
     }
 }

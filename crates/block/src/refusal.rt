@@ -43,8 +43,5 @@ impl From<Refusal> for u8 {
 pub fn answer_number(answer: Result<(), Refusal>) -> u8
     ensures { result ≡ answer_of answer }
 {
-    match answer {
-        Ok(()) => 0,
-        Err(refusal) => u8::from(refusal),
-    }
+    answer.err().map_or(0, u8::from)
 }

@@ -10,7 +10,8 @@ mod plans;
 mod tells;
 
 // The rows of the latest programming, for the starting speed in force. A table is ready once its programming was closed with at
-// least two rows.
+// least two rows. What it means is said by `table_means`: a model in its place would save a word in each clause, and bring an `impl`
+// with an invariant where four ghost fields stand.
 #[derive(Drop)]
 pub struct Table {
     start: u32,

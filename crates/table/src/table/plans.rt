@@ -26,7 +26,7 @@ impl Table {
         rows
     }
 
-    // The steps of a blend: the sizes of all rows.
+    // The steps of a blend: the sizes of all rows, by the same sum as its plan's.
     pub fn blend_steps(&self) -> u32
         ensures steps { result ≡ steps_of (map row_of (table_means self.now).rows) }
         ensures few { result ≤ 134217712 }

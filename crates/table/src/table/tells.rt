@@ -33,7 +33,8 @@ impl Table {
         self.rows().get(i).copied()
     }
 
-    // Row `i`; past the last row, a segment of no step, of which no plan comes: who asks for a plan is refused there.
+    // Row `i`; past the last row, a segment of no step. It stands beside `get`, since it cannot fail: whoever asks for a row's plan is
+    // refused by the plan's maker, where an `Option` would ask the same once more.
     pub fn row(&self, i: usize) -> Segment
         ensures { result ≡ row_at (table_means self.now) i }
     {

@@ -1,6 +1,6 @@
 use Rattle.std.proofs.Common.{get_or, pos, w16, SFits, rules}
 use Rattle.std.proofs.lemmas.Int.{to_z-of_z}
-use Rattle.block.proofs.frame.Block.read.Goals as goal
+use Rattle.block.proofs.frame.BlockTryFromRefSliceI16.try_from.Goals as goal
 
 pub returns : goal.returns
 returns c =
