@@ -1,5 +1,5 @@
 -- What an accepted block makes of the axis. The profile's new meaning p is what its own calls allow (Uses).
-use Rattle.std.specs.Prelude.{◌≡◌, ℕ, Bool, true, false, cond, ℤ, MatchBool, ◌==◌}
+use Rattle.std.specs.Prelude.{◌≡◌, Bool, true, false, cond, ℤ, MatchBool, ◌==◌}
 use Rattle.drive.specs.Directions.{toward}
 use Rattle.drive.specs.Drives.{landed, setting, with_trip}
 use Rattle.drive.specs.Positions.{is_position}
@@ -13,7 +13,7 @@ use Rattle.axis.specs.Judging.{runs}
 use Rattle.axis.specs.Memories.{MemoryMeans, with_table, with_state, with_flags, with_pace, with_command, with_input, with_invalid, with_complete, no_pace}
 use Rattle.axis.specs.Plans.{leg_plan}
 use Rattle.axis.specs.Stops.{stopped, eased}
-use Rattle.axis.specs.declared.order.DwellRun.{DwellRun}
+use Rattle.axis.specs.declared.order.DwellRow.{DwellRow}
 use Rattle.axis.specs.declared.order.Leg.{Leg}
 use Rattle.axis.specs.declared.order.Order.{Order}
 use Rattle.axis.specs.declared.order.Order.TheVariants as order
@@ -34,16 +34,16 @@ began m travel p = record { drive = m.drive; profile = p; memory = set_out m.mem
 abbrev pub go_travel : AxisMeans → Leg → Travel
 go_travel m leg = record { direction = toward m.drive.place leg.target; kind = Single leg.target }
 
--- along row i of the table
-abbrev pub row_travel : TableMeans → DwellRun → ℕ → Travel
-row_travel t run i = record { direction = way_of (row_at t i); kind = Dwell run i }
+-- along a row of the table
+abbrev pub row_travel : TableMeans → DwellRow → Travel
+row_travel t row = record { direction = way_of (row_at t row.index); kind = Dwell row }
 
 -- a hold brakes; in a pause nothing is left, so it is over at once
 abbrev pub held : State → AxisMeans → ProfileMeans → AxisMeans
 held Idle m p = m
 held Programming m p = m
 held (Running travel) m p = record { drive = m.drive; profile = p; memory = eased m.memory (p.left == 0) m.drive.place travel }
-held (Pausing run row ticks) m p = record { drive = m.drive; profile = p; memory = with_state m.memory Idle }
+held (Pausing next ticks) m p = record { drive = m.drive; profile = p; memory = with_state m.memory Idle }
 held (Holding travel) m p = m
 held (Held target) m p = m
 
@@ -75,7 +75,7 @@ carried m (order.Reset trip) p = reset m trip
 carried m order.Program p = with_memory m (programmed m.memory)
 carried m (order.Segment s) p = with_memory m (with_table m.memory (added m.memory.table s))
 carried m (order.Blend way rates) p = began m (record { direction = way; kind = Blend }) p
-carried m (order.Dwell run) p = began m (row_travel m.memory.table run 0) p
+carried m (order.Dwell run) p = began m (row_travel m.memory.table (record { run = run; index = 0 })) p
 
 -- what becomes of the profile: a move begins exactly its plan, a hold brakes, and nothing else touches it
 abbrev pub Uses : AxisMeans → Order → ProfileMeans → Type 0

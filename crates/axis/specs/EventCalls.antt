@@ -18,7 +18,7 @@ abbrev pub travels : State → Bool
 travels Idle = false
 travels Programming = false
 travels (Running travel) = true
-travels (Pausing run row ticks) = true
+travels (Pausing next ticks) = true
 travels (Holding travel) = true
 travels (Held target) = false
 

@@ -50,7 +50,7 @@ abbrev pub rests : State → Bool
 rests Idle = true
 rests Programming = false
 rests (Running travel) = false
-rests (Pausing run row ticks) = false
+rests (Pausing next ticks) = false
 rests (Holding travel) = false
 rests (Held target) = true
 
@@ -58,7 +58,7 @@ abbrev pub runs : State → Bool
 runs Idle = false
 runs Programming = false
 runs (Running travel) = true
-runs (Pausing run row ticks) = true
+runs (Pausing next ticks) = true
 runs (Holding travel) = false
 runs (Held target) = false
 
@@ -66,7 +66,7 @@ abbrev pub programs : State → Bool
 programs Idle = false
 programs Programming = true
 programs (Running travel) = false
-programs (Pausing run row ticks) = false
+programs (Pausing next ticks) = false
 programs (Holding travel) = false
 programs (Held target) = false
 
@@ -75,7 +75,7 @@ abbrev pub held_target : State → Option ℤ
 held_target Idle = None
 held_target Programming = None
 held_target (Running travel) = None
-held_target (Pausing run row ticks) = None
+held_target (Pausing next ticks) = None
 held_target (Holding travel) = None
 held_target (Held target) = Some target
 

@@ -14,7 +14,7 @@ abbrev pub is_idle : State → Bool
 is_idle Idle = true
 is_idle Programming = false
 is_idle (Running travel) = false
-is_idle (Pausing run row ticks) = false
+is_idle (Pausing next ticks) = false
 is_idle (Holding travel) = false
 is_idle (Held target) = false
 

@@ -3,6 +3,7 @@ use Rattle.std.specs.Prelude.{◌+◌, Bool, true, cond, length, ℤ, ◌==◌, 
 use Rattle.drive.specs.Positions.{distance}
 use Rattle.table.specs.Tables.{TableMeans, emptied}
 use Rattle.axis.specs.Memories.{MemoryMeans, with_state, with_flags, with_table, with_input, with_invalid, with_complete}
+use Rattle.axis.specs.declared.order.DwellRow.{DwellRow}
 use Rattle.axis.specs.declared.state.Kind.{Kind}
 use Rattle.axis.specs.declared.state.Kind.TheVariants.{Single, Blend, Dwell}
 use Rattle.axis.specs.declared.state.State.{State}
@@ -14,7 +15,7 @@ abbrev pub table_stopped : State → TableMeans → TableMeans
 table_stopped Idle t = t
 table_stopped Programming t = emptied t.start
 table_stopped (Running travel) t = t
-table_stopped (Pausing run row ticks) t = t
+table_stopped (Pausing next ticks) t = t
 table_stopped (Holding travel) t = t
 table_stopped (Held target) t = t
 
@@ -31,18 +32,22 @@ completed k = with_state (with_flags k (with_complete k.flags true)) Idle
 abbrev pub rested : MemoryMeans → ℤ → Kind → MemoryMeans
 rested k place (Single target) = cond (distance place target == 0) (completed k) (with_state k (Held target))
 rested k place Blend = with_state k Idle
-rested k place (Dwell run row) = with_state k Idle
+rested k place (Dwell row) = with_state k Idle
 
 -- holding goes on, or ends as soon as nothing is left
 abbrev pub eased : MemoryMeans → Bool → ℤ → Travel → MemoryMeans
 eased k over place travel = cond over (rested k place travel.kind) (with_state k (Holding travel))
 
+-- the next row of a run
+abbrev pub row_after : DwellRow → DwellRow
+row_after row = record { run = row.run; index = row.index + 1 }
+
 -- the end of a plan: a dwell move with another row pauses, any other move is complete
 abbrev pub ended : MemoryMeans → Kind → MemoryMeans
 ended k (Single target) = completed k
 ended k Blend = completed k
-ended k (Dwell run row) =
-    cond (nat_lt (row + 1) (length k.table.rows)) (with_state k (Pausing run (row + 1) run.dwell)) (completed k)
+ended k (Dwell row) =
+    cond (nat_lt (row.index + 1) (length k.table.rows)) (with_state k (Pausing (row_after row) row.run.dwell)) (completed k)
 
 -- running goes on until nothing is left
 abbrev pub arrived : MemoryMeans → Bool → Travel → MemoryMeans
@@ -53,7 +58,7 @@ abbrev pub gone_on : State → MemoryMeans → Bool → ℤ → MemoryMeans
 gone_on Idle k over place = k
 gone_on Programming k over place = k
 gone_on (Running travel) k over place = arrived k over travel
-gone_on (Pausing run row ticks) k over place = k
+gone_on (Pausing next ticks) k over place = k
 gone_on (Holding travel) k over place = eased k over place travel
 gone_on (Held target) k over place = k
 

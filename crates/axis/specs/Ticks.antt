@@ -10,7 +10,7 @@ use Rattle.axis.specs.Axes.{AxisMeans, with_memory}
 use Rattle.axis.specs.Carrying.{began, row_travel}
 use Rattle.axis.specs.Memories.{with_state, with_pace}
 use Rattle.axis.specs.Stops.{stopped, gone_on}
-use Rattle.axis.specs.declared.order.DwellRun.{DwellRun}
+use Rattle.axis.specs.declared.order.DwellRow.{DwellRow}
 use Rattle.axis.specs.declared.state.State.{State}
 use Rattle.axis.specs.declared.state.State.TheVariants.{Idle, Programming, Running, Pausing, Holding, Held}
 
@@ -51,14 +51,14 @@ abbrev pub is_plan : PlanMeans → Bool
 is_plan plan = not (is_some (plan_fault plan))
 
 -- the tick that begins the next row of a dwell move ticks it at once; where there is no such row, a full stop
-abbrev pub row_steps : ℕ → AxisMeans → DwellRun → ℕ → ProfileMeans → ℤ
-row_steps g m run row p =
-    cond (is_plan (row_plan m.memory.table run.rates row)) (steps_sent g m (row_travel m.memory.table run row).direction 0 p) (pos 0)
+abbrev pub row_steps : ℕ → AxisMeans → DwellRow → ProfileMeans → ℤ
+row_steps g m row p =
+    cond (is_plan (row_plan m.memory.table row.run.rates row.index)) (steps_sent g m (row_travel m.memory.table row).direction 0 p) (pos 0)
 
-abbrev pub row_begun : ℕ → AxisMeans → DwellRun → ℕ → ProfileMeans → AxisMeans
-row_begun g m run row p =
-    cond (is_plan (row_plan m.memory.table run.rates row))
-    (moved_on g (Running (row_travel m.memory.table run row)) (began m (row_travel m.memory.table run row) p) (row_travel m.memory.table run row).direction 0 p)
+abbrev pub row_begun : ℕ → AxisMeans → DwellRow → ProfileMeans → AxisMeans
+row_begun g m row p =
+    cond (is_plan (row_plan m.memory.table row.run.rates row.index))
+    (moved_on g (Running (row_travel m.memory.table row)) (began m (row_travel m.memory.table row) p) (row_travel m.memory.table row).direction 0 p)
     (with_memory m (stopped m.memory))
 
 -- the states whose tick is in motion: running, holding, and a pause that is over
@@ -66,7 +66,7 @@ abbrev pub in_motion : State → Bool
 in_motion Idle = false
 in_motion Programming = false
 in_motion (Running travel) = true
-in_motion (Pausing run row ticks) = ticks == 0
+in_motion (Pausing next ticks) = ticks == 0
 in_motion (Holding travel) = true
 in_motion (Held target) = false
 
@@ -75,7 +75,7 @@ abbrev pub tick_steps : ℕ → State → AxisMeans → ProfileMeans → ℤ
 tick_steps g Idle m p = pos 0
 tick_steps g Programming m p = pos 0
 tick_steps g (Running travel) m p = steps_sent g m travel.direction m.profile.gone p
-tick_steps g (Pausing run row ticks) m p = cond (ticks == 0) (row_steps g m run row p) (pos 0)
+tick_steps g (Pausing next ticks) m p = cond (ticks == 0) (row_steps g m next p) (pos 0)
 tick_steps g (Holding travel) m p = steps_sent g m travel.direction m.profile.gone p
 tick_steps g (Held target) m p = pos 0
 
@@ -84,7 +84,7 @@ abbrev pub tick_after : ℕ → State → AxisMeans → ProfileMeans → AxisMea
 tick_after g Idle m p = m
 tick_after g Programming m p = m
 tick_after g (Running travel) m p = moved_on g (Running travel) m travel.direction m.profile.gone p
-tick_after g (Pausing run row ticks) m p = cond (ticks == 0) (row_begun g m run row p) (with_memory m (with_state m.memory (Pausing run row (ticks - 1))))
+tick_after g (Pausing next ticks) m p = cond (ticks == 0) (row_begun g m next p) (with_memory m (with_state m.memory (Pausing next (ticks - 1))))
 tick_after g (Holding travel) m p = moved_on g (Holding travel) m travel.direction m.profile.gone p
 tick_after g (Held target) m p = m
 
@@ -104,9 +104,9 @@ abbrev pub TickUses : State → AxisMeans → ProfileMeans → Type 0
 TickUses Idle m p = p ≡ m.profile
 TickUses Programming m p = p ≡ m.profile
 TickUses (Running travel) m p = OneTick m.profile p
-TickUses (Pausing run row ticks) m p =
+TickUses (Pausing next ticks) m p =
     MatchBool (ticks == 0)
-    (MatchBool (is_plan (row_plan m.memory.table run.rates row)) (FirstTick m.profile (row_plan m.memory.table run.rates row) p) (p ≡ m.profile))
+    (MatchBool (is_plan (row_plan m.memory.table next.run.rates next.index)) (FirstTick m.profile (row_plan m.memory.table next.run.rates next.index) p) (p ≡ m.profile))
     (p ≡ m.profile)
 TickUses (Holding travel) m p = OneTick m.profile p
 TickUses (Held target) m p = p ≡ m.profile

@@ -18,6 +18,13 @@ pub struct DwellRun {
     pub dwell: u32,
 }
 
+// One row of such a run, by its index in the table.
+#[derive(Clone, Copy, PartialEq, Eq, Debug)]
+pub struct DwellRow {
+    pub run: DwellRun,
+    pub index: usize,
+}
+
 #[derive(Clone, Copy, PartialEq, Eq, Debug)]
 pub enum Order {
     // No bit rises.

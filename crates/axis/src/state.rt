@@ -1,5 +1,5 @@
 // The state of the axis.
-use crate::order::DwellRun;
+use crate::order::DwellRow;
 use drive::direction::Direction;
 
 #[derive(Clone, Copy, PartialEq, Eq, Debug)]
@@ -9,11 +9,7 @@ pub enum State {
     // A plan is in motion.
     Running(Travel),
     // Between two rows of a dwell move: the row that comes next, and the ticks still to wait.
-    Pausing {
-        run: DwellRun,
-        row: usize,
-        ticks: u32,
-    },
+    Pausing { next: DwellRow, ticks: u32 },
     // A plan is coming to rest.
     Holding(Travel),
     // A single move at rest on its way to this target.
@@ -34,5 +30,5 @@ pub enum Kind {
     // All rows of the table as one plan.
     Blend,
     // This row of the table, as a plan of its own.
-    Dwell { run: DwellRun, row: usize },
+    Dwell(DwellRow),
 }

@@ -28,6 +28,7 @@ use Rattle.axis.specs.Carrying.{began, go_travel, held, carried, Uses, Ready}
 use Rattle.unrefused.specs.Fits.{InPause, Underway, Fit}
 use Rattle.axis.specs.Judging.{programs, runs, inhibited, speed_fits, rates_fit, pace_fits}
 use Rattle.axis.specs.Plans.{leg_plan, blend_end}
+use Rattle.axis.specs.declared.order.DwellRow.{DwellRow}
 use Rattle.axis.specs.declared.order.Leg.{Leg}
 use Rattle.axis.specs.declared.order.Order.{Order}
 use Rattle.axis.specs.declared.order.Order.TheVariants as order
@@ -81,7 +82,7 @@ programs_rests : (g : ℕ) (s : State) (d : DriveMeans) (p : ProfileMeans) (t : 
 programs_rests g Idle d p t e = absurd (false≢true e)
 programs_rests g Programming d p t e = tt
 programs_rests g (Running travel) d p t e = absurd (false≢true e)
-programs_rests g (Pausing run row ticks) d p t e = absurd (false≢true e)
+programs_rests g (Pausing next ticks) d p t e = absurd (false≢true e)
 programs_rests g (Holding travel) d p t e = absurd (false≢true e)
 programs_rests g (Held target) d p t e = absurd (false≢true e)
 
@@ -90,7 +91,7 @@ resets : (g : ℕ) (s : State) (d : DriveMeans) (p : ProfileMeans) (t : TableMea
 resets g Idle d p t u = tt
 resets g Programming d p t u = tt
 resets g (Running travel) d p t u = (record { untripped = refl; slow = u.0.slow; ends = u.0.ends }, u.1)
-resets g (Pausing run row ticks) d p t u = record { untripped = refl; within = u.within; later = u.later }
+resets g (Pausing next ticks) d p t u = record { untripped = refl; within = u.within; later = u.later }
 resets g (Holding travel) d p t u = record { untripped = refl; slow = u.slow; ends = u.ends }
 resets g (Held target) d p t u = tt
 
@@ -120,7 +121,7 @@ module _ (g : ℕ) (m : AxisMeans) (f : Fit g m) (here : is_position m.drive.pla
   held_fits Programming p u b = f
   held_fits (Running travel) p u b =
       eased_fits g m.drive p m.memory travel f.table (brakes g travel.direction m.drive m.profile p here u.0 b)
-  held_fits (Pausing run row ticks) p u b = record { table = f.table; underway = tt }
+  held_fits (Pausing next ticks) p u b = record { table = f.table; underway = tt }
   held_fits (Holding travel) p u b = f
   held_fits (Held target) p u b = f
 
@@ -141,12 +142,13 @@ module _ (g : ℕ) (m : AxisMeans) (f : Fit g m) (here : is_position m.drive.pla
         underway = (begins g way m.drive (blend_plan m.memory.table rates) m.profile p u a.0 (tops_slow (1000 * g) m.memory.table.rows f.table.slow) a.1, tt);
       }
   carried_fits (order.Dwell run) p r a u =
+      let row : DwellRow = record { run = run; index = 0 } in
       let l : 0 < length m.memory.table.rows = omega (arith, f.table.enough a.1) in
-      let pause : InPause m.drive m.memory.table run 0 =
+      let pause : InPause m.drive m.memory.table row =
       record { untripped = a.0; within = l; later = record { rates = record { gains = r.gains; slows = r.slows }; stays = a.2 } } in
       record {
         table = f.table;
-        underway = (row_begins g m.drive m.memory.table run 0 f.table pause m.profile p u, row_leaves g m.drive m.memory.table run 0 f.table pause m.profile p u);
+        underway = (row_begins g m.drive m.memory.table row f.table pause m.profile p u, row_leaves g m.drive m.memory.table row f.table pause m.profile p u);
       }
 
   finished_fits : (r : Result Order Refusal) (p : ProfileMeans) → ((o : Order) → r ≡ Ok o → Ready m o × Asked g m o) → UsesBy m r p → Fit g (finished m r p)

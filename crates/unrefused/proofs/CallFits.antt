@@ -41,7 +41,7 @@ idle_rests : (g : ℕ) (s : State) (d : DriveMeans) (p : ProfileMeans) (t : Tabl
 idle_rests g Idle d p t e = tt
 idle_rests g Programming d p t e = absurd (false≢true e)
 idle_rests g (Running travel) d p t e = absurd (false≢true e)
-idle_rests g (Pausing run row ticks) d p t e = absurd (false≢true e)
+idle_rests g (Pausing next ticks) d p t e = absurd (false≢true e)
 idle_rests g (Holding travel) d p t e = absurd (false≢true e)
 idle_rests g (Held target) d p t e = absurd (false≢true e)
 
@@ -64,7 +64,7 @@ module _ (g : ℕ) where
   stopped_table Idle t f = f
   stopped_table Programming t f = empty_fits g t.start f.starts.0 f.starts.1
   stopped_table (Running travel) t f = f
-  stopped_table (Pausing run row ticks) t f = f
+  stopped_table (Pausing next ticks) t f = f
   stopped_table (Holding travel) t f = f
   stopped_table (Held target) t f = f
 
@@ -106,7 +106,7 @@ module _ (g : ℕ) where
         either (Kept d p) (eqb (distance d.place target) 0) (completed k) (with_state k (Held target))
         (record { table = f; underway = tt }) (record { table = f; underway = tt })
     rested_fits Blend f = record { table = f; underway = tt }
-    rested_fits (Dwell run row) f = record { table = f; underway = tt }
+    rested_fits (Dwell row) f = record { table = f; underway = tt }
 
     pub eased_fits : (travel : Travel) → TableFits g k.table → InMotion g travel.direction d p → Kept d p (eased k (eqb p.left 0) d.place travel)
     eased_fits travel f i = either (Kept d p) (eqb p.left 0) _ _ (rested_fits travel.kind f) (record { table = f; underway = i })

@@ -19,8 +19,9 @@ use Rattle.table.specs.declared.segment.Segment.{Segment}
 use Rattle.unrefused.proofs.Motions.{begins, begun_end}
 use Rattle.axis.proofs.Readiness.{row_fits, segment_near}
 use Rattle.unrefused.specs.Fits.{none_faster, TableFits, InMotion, end_of, RowsFit, InPause}
+use Rattle.axis.specs.Stops.{row_after}
 use Rattle.axis.specs.Ticks.{is_plan}
-use Rattle.axis.specs.declared.order.DwellRun.{DwellRun}
+use Rattle.axis.specs.declared.order.DwellRow.{DwellRow}
 
 -- no row is fast in an empty table, nor does one more slow row change that
 none_fast : (v : ℕ) → none_faster v [] ≡ true
@@ -106,17 +107,17 @@ lawful_plan plan l =
       le-ltb 16777214 (plan_steps plan) l.near,
     )
 
--- row i of a table that fits
-module _ (g : ℕ) (d : DriveMeans) (t : TableMeans) (run : DwellRun) (i : ℕ) (fits : TableFits g t) (pause : InPause d t run i) where
+-- the next row of a table that fits
+module _ (g : ℕ) (d : DriveMeans) (t : TableMeans) (next : DwellRow) (fits : TableFits g t) (pause : InPause d t next) where
   abbrev row : Segment
-  row = row_at t i
+  row = row_at t next.index
 
   abbrev plan : PlanMeans
-  plan = row_plan t run.rates i
+  plan = row_plan t next.run.rates next.index
 
   pub row_lawful : Lawful plan
   row_lawful =
-      let x = segment_at t.start t.rows i pause.within fits.each in
+      let x = segment_at t.start t.rows next.index pause.within fits.each in
       record {
         starts = fits.starts.0;
         gains = pause.later.rates.gains;
@@ -127,10 +128,10 @@ module _ (g : ℕ) (d : DriveMeans) (t : TableMeans) (run : DwellRun) (i : ℕ) 
       }
 
   -- its course, and that of the rows after it
-  stays : (goes_to d.place (d.place +ℤ row.distance) ≡ true) × (stays_on (d.place +ℤ row.distance) (drop (i + 1) t.rows) ≡ true)
+  stays : (goes_to d.place (d.place +ℤ row.distance) ≡ true) × (stays_on (d.place +ℤ row.distance) (drop (next.index + 1) t.rows) ≡ true)
   stays =
       and_parts (goes_to d.place (d.place +ℤ row.distance)) _
-      (sym (stays_next d.place t.rows i no_segment pause.within) ∙ pause.later.stays)
+      (sym (stays_next d.place t.rows next.index no_segment pause.within) ∙ pause.later.stays)
 
   there : d.place +ℤ signed (way_of row) (plan_steps plan) ≡ d.place +ℤ row.distance
   there = ap (λ n. d.place +ℤ signed (way_of row) n) (one_row_steps row) ∙ leads d.place row.distance
@@ -139,12 +140,12 @@ module _ (g : ℕ) (d : DriveMeans) (t : TableMeans) (run : DwellRun) (i : ℕ) 
   row_begins was p b =
       let end = (and_parts (not (eqb (distance d.place (d.place +ℤ row.distance)) 0)) (is_position (d.place +ℤ row.distance)) stays.0).1 in
       begins g (way_of row) d plan was p b pause.untripped
-      (omega (arith, one_row_top row, slow_at (1000 * g) t.rows i pause.within fits.slow))
+      (omega (arith, one_row_top row, slow_at (1000 * g) t.rows next.index pause.within fits.slow))
       (ap is_position there ∙ end)
 
-  pub row_leaves : (was p : ProfileMeans) → Begun was plan p → RowsFit t run (i + 1) (end_of (way_of row) d p)
+  pub row_leaves : (was p : ProfileMeans) → Begun was plan p → RowsFit t (row_after next) (end_of (way_of row) d p)
   row_leaves was p b =
       record {
         rates = pause.later.rates;
-        stays = ap (λ z. stays_on z (drop (i + 1) t.rows)) (begun_end (way_of row) d plan was p b ∙ there) ∙ stays.1;
+        stays = ap (λ z. stays_on z (drop (next.index + 1) t.rows)) (begun_end (way_of row) d plan was p b ∙ there) ∙ stays.1;
       }

@@ -15,7 +15,7 @@ use Rattle.axis.specs.Carrying.{began, row_travel}
 use Rattle.unrefused.specs.Fits.{TableFits, InMotion, end_of, Afterwards, InPause, Underway, Fit, UnrefusedIn, Unrefused}
 use Rattle.axis.specs.Stops.{stopped, ended, arrived}
 use Rattle.axis.specs.Ticks.{due, takes_all, moved, moved_on, is_plan, row_begun, OneTick, FirstTick, tick_after, TickUses}
-use Rattle.axis.specs.declared.order.DwellRun.{DwellRun}
+use Rattle.axis.specs.declared.order.DwellRow.{DwellRow}
 use Rattle.axis.specs.declared.state.Kind.{Kind}
 use Rattle.axis.specs.declared.state.Kind.TheVariants.{Single, Blend, Dwell}
 use Rattle.axis.specs.declared.state.State.{State}
@@ -28,9 +28,9 @@ module _ (g : ℕ) where
     ended_fits : (kind : Kind) → TableFits g k.table → d.tripped ≡ false → Afterwards k.table d.place kind → Kept g d p (ended k kind)
     ended_fits (Single target) f u a = record { table = f; underway = tt }
     ended_fits Blend f u a = record { table = f; underway = tt }
-    ended_fits (Dwell run row) f u a =
-        cond_both (ltb (row + 1) (length k.table.rows)) _ _ (Kept g d p)
-        (λ e. record { table = f; underway = record { untripped = u; within = ltb-true (row + 1) (length k.table.rows) e; later = a } })
+    ended_fits (Dwell row) f u a =
+        cond_both (ltb (row.index + 1) (length k.table.rows)) _ _ (Kept g d p)
+        (λ e. record { table = f; underway = record { untripped = u; within = ltb-true (row.index + 1) (length k.table.rows) e; later = a } })
         (λ e. record { table = f; underway = tt })
 
     arrived_fits :
@@ -69,29 +69,29 @@ module _ (g : ℕ) where
         (moves_on g travel.direction m.drive before p t.advance here i t.ticked s))
 
   -- the tick that begins a row of a dwell move
-  module _ (m : AxisMeans) (run : DwellRun) (row : ℕ) (p : ProfileMeans) (f : TableFits g m.memory.table) (here : is_position m.drive.place ≡ true) (pause : InPause m.drive m.memory.table run row) (s : Sound p) where
-    row_is_plan : is_plan (row_plan m.memory.table run.rates row) ≡ true
-    row_is_plan = lawful_plan (row_plan m.memory.table run.rates row) (row_lawful g m.drive m.memory.table run row f pause)
+  module _ (m : AxisMeans) (row : DwellRow) (p : ProfileMeans) (f : TableFits g m.memory.table) (here : is_position m.drive.place ≡ true) (pause : InPause m.drive m.memory.table row) (s : Sound p) where
+    row_is_plan : is_plan (row_plan m.memory.table row.run.rates row.index) ≡ true
+    row_is_plan = lawful_plan (row_plan m.memory.table row.run.rates row.index) (row_lawful g m.drive m.memory.table row f pause)
 
     row_ticks :
-        FirstTick m.profile (row_plan m.memory.table run.rates row) p
-        → (takes_all g m.drive (due (row_travel m.memory.table run row).direction 0 p) ≡ true) × Fit g (moved_on g (Running (row_travel m.memory.table run row)) (began m (row_travel m.memory.table run row) p) (row_travel m.memory.table run row).direction 0 p)
+        FirstTick m.profile (row_plan m.memory.table row.run.rates row.index) p
+        → (takes_all g m.drive (due (row_travel m.memory.table row).direction 0 p) ≡ true) × Fit g (moved_on g (Running (row_travel m.memory.table row)) (began m (row_travel m.memory.table row) p) (row_travel m.memory.table row).direction 0 p)
     row_ticks t =
         let b = t.begun in
-        let i = row_begins g m.drive m.memory.table run row f pause m.profile b t.begins in
-        let a = row_leaves g m.drive m.memory.table run row f pause m.profile b t.begins in
+        let i = row_begins g m.drive m.memory.table row f pause m.profile b t.begins in
+        let a = row_leaves g m.drive m.memory.table row f pause m.profile b t.begins in
         let z : b.gone ≡ 0 = ap (λ x. x.gone) t.begins.after in
-        let P : ℕ → Type 0 = λ n. takes_all g m.drive (due (row_travel m.memory.table run row).direction n p) ≡ true in
-        let Q : ℕ → Type 0 = λ n. Fit g (moved_on g (Running (row_travel m.memory.table run row)) (began m (row_travel m.memory.table run row) p) (row_travel m.memory.table run row).direction n p) in (
-          subst P z (taken m (row_travel m.memory.table run row) b p f here i t.ticks s),
-          subst Q z (ran_fits (began m (row_travel m.memory.table run row) p) (row_travel m.memory.table run row) b p f here i t.ticks s a),
+        let P : ℕ → Type 0 = λ n. takes_all g m.drive (due (row_travel m.memory.table row).direction n p) ≡ true in
+        let Q : ℕ → Type 0 = λ n. Fit g (moved_on g (Running (row_travel m.memory.table row)) (began m (row_travel m.memory.table row) p) (row_travel m.memory.table row).direction n p) in (
+          subst P z (taken m (row_travel m.memory.table row) b p f here i t.ticks s),
+          subst Q z (ran_fits (began m (row_travel m.memory.table row) p) (row_travel m.memory.table row) b p f here i t.ticks s a),
         )
 
     pause_ticks :
         (over : Bool) (ticks : ℕ)
-        → MatchBool over (MatchBool (is_plan (row_plan m.memory.table run.rates row)) (FirstTick m.profile (row_plan m.memory.table run.rates row) p) (p ≡ m.profile)) (p ≡ m.profile)
-        → MatchBool over ((is_plan (row_plan m.memory.table run.rates row) ≡ true) × (takes_all g m.drive (due (row_travel m.memory.table run row).direction 0 p) ≡ true)) (Unit {0})
-        × Fit g (cond over (row_begun g m run row p) (with_memory m (with_state m.memory (Pausing run row ticks))))
+        → MatchBool over (MatchBool (is_plan (row_plan m.memory.table row.run.rates row.index)) (FirstTick m.profile (row_plan m.memory.table row.run.rates row.index) p) (p ≡ m.profile)) (p ≡ m.profile)
+        → MatchBool over ((is_plan (row_plan m.memory.table row.run.rates row.index) ≡ true) × (takes_all g m.drive (due (row_travel m.memory.table row).direction 0 p) ≡ true)) (Unit {0})
+        × Fit g (cond over (row_begun g m row p) (with_memory m (with_state m.memory (Pausing row ticks))))
     pause_ticks true ticks t =
         let r = row_ticks (when_true _ _ row_is_plan t) in
         let P : AxisMeans → Type 0 = λ x. Fit g x in
@@ -105,7 +105,7 @@ module _ (g : ℕ) where
   tick_state Programming m p here f u s t = (tt, f)
   tick_state (Running travel) m p here f u s t =
       (taken m travel m.profile p f.table here u.0 t s, ran_fits m travel m.profile p f.table here u.0 t s u.1)
-  tick_state (Pausing run row ticks) m p here f u s t = pause_ticks m run row p f.table here u s (eqb ticks 0) (ticks - 1) t
+  tick_state (Pausing next ticks) m p here f u s t = pause_ticks m next p f.table here u s (eqb ticks 0) (ticks - 1) t
   tick_state (Holding travel) m p here f u s t =
       (taken m travel m.profile p f.table here u t s, held_fits m travel m.profile p f.table here u t s)
   tick_state (Held target) m p here f u s t = (tt, f)

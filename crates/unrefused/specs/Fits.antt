@@ -1,6 +1,6 @@
 -- The drive never refuses the advance of a tick: what every call keeps of the axis, over a drive that goes at most g steps at once
 -- (Fit), and that no tick of such an axis is refused (Unrefused).
-use Rattle.std.specs.Prelude.{◌≡◌, ℕ, ◌+◌, ◌-◌, ◌*◌, ◌/◌, ◌<◌, ◌≤◌, Bool, true, false, ◌&&◌, List, [], ◌∷◌, length, drop, ℤ, ◌+ℤ◌, MatchBool, Result, ◌==◌, nat_le}
+use Rattle.std.specs.Prelude.{◌≡◌, ℕ, ◌-◌, ◌*◌, ◌/◌, ◌<◌, ◌≤◌, Bool, true, false, ◌&&◌, List, [], ◌∷◌, length, drop, ℤ, ◌+ℤ◌, MatchBool, Result, ◌==◌, nat_le}
 use Rattle.drive.specs.Directions.{signed}
 use Rattle.drive.specs.Drives.{DriveMeans}
 use Rattle.drive.specs.Positions.{is_position}
@@ -19,8 +19,9 @@ use Rattle.axis.specs.Blocks.{after, UsesOf}
 use Rattle.axis.specs.Carrying.{row_travel}
 use Rattle.axis.specs.EventCalls.{after_of}
 use Rattle.axis.specs.Setups.{setup_after}
+use Rattle.axis.specs.Stops.{row_after}
 use Rattle.axis.specs.Ticks.{due, takes_all, is_plan, tick_after, TickUses}
-use Rattle.axis.specs.declared.order.DwellRun.{DwellRun}
+use Rattle.axis.specs.declared.order.DwellRow.{DwellRow}
 use Rattle.profile.specs.declared.rates.Rates.{Rates}
 use Rattle.axis.specs.declared.state.Kind.{Kind}
 use Rattle.axis.specs.declared.state.Kind.TheVariants.{Single, Blend, Dwell}
@@ -55,29 +56,29 @@ pub record RatesFit (r : Rates) : Type 0 where
   pub gains : (1 ≤ r.accel) × (r.accel ≤ 5000)
   pub slows : (1 ≤ r.decel) × (r.decel ≤ 5000)
 
--- the rows of a dwell move from row i on, each to a position, where the first of them sets out from a place
-pub record RowsFit (t : TableMeans) (run : DwellRun) (i : ℕ) (from : ℤ) : Type 0 where
-  pub rates : RatesFit run.rates
-  pub stays : stays_on from (drop i t.rows) ≡ true
+-- the rows of a dwell move from this row on, each to a position, where the first of them sets out from a place
+pub record RowsFit (t : TableMeans) (row : DwellRow) (from : ℤ) : Type 0 where
+  pub rates : RatesFit row.run.rates
+  pub stays : stays_on from (drop row.index t.rows) ≡ true
 
 -- what a dwell move has yet to do after its row, which ends at a place; any other move is then over
 abbrev pub Afterwards : TableMeans → ℤ → Kind → Type 0
 Afterwards t end (Single target) = Unit {0}
 Afterwards t end Blend = Unit {0}
-Afterwards t end (Dwell run row) = RowsFit t run (row + 1) end
+Afterwards t end (Dwell row) = RowsFit t (row_after row) end
 
 -- between two rows: the next is a row of the table
-pub record InPause (d : DriveMeans) (t : TableMeans) (run : DwellRun) (row : ℕ) : Type 0 where
+pub record InPause (d : DriveMeans) (t : TableMeans) (next : DwellRow) : Type 0 where
   pub untripped : d.tripped ≡ false
-  pub within : row < length t.rows
-  pub later : RowsFit t run row d.place
+  pub within : next.index < length t.rows
+  pub later : RowsFit t next d.place
 
 -- by the state: what moves, or will, stays within the drive's reach
 abbrev pub Underway : ℕ → State → DriveMeans → ProfileMeans → TableMeans → Type 0
 Underway g Idle d p t = Unit {0}
 Underway g Programming d p t = Unit {0}
 Underway g (Running travel) d p t = InMotion g travel.direction d p × Afterwards t (end_of travel.direction d p) travel.kind
-Underway g (Pausing run row ticks) d p t = InPause d t run row
+Underway g (Pausing next ticks) d p t = InPause d t next
 Underway g (Holding travel) d p t = InMotion g travel.direction d p
 Underway g (Held target) d p t = Unit {0}
 
@@ -92,9 +93,9 @@ abbrev pub UnrefusedIn : ℕ → State → AxisMeans → ProfileMeans → Type 0
 UnrefusedIn g Idle m p = Unit {0}
 UnrefusedIn g Programming m p = Unit {0}
 UnrefusedIn g (Running travel) m p = takes_all g m.drive (due travel.direction m.profile.gone p) ≡ true
-UnrefusedIn g (Pausing run row ticks) m p =
+UnrefusedIn g (Pausing next ticks) m p =
     MatchBool (ticks == 0)
-    ((is_plan (row_plan m.memory.table run.rates row) ≡ true) × (takes_all g m.drive (due (row_travel m.memory.table run row).direction 0 p) ≡ true))
+    ((is_plan (row_plan m.memory.table next.run.rates next.index) ≡ true) × (takes_all g m.drive (due (row_travel m.memory.table next).direction 0 p) ≡ true))
     (Unit {0})
 UnrefusedIn g (Holding travel) m p = takes_all g m.drive (due travel.direction m.profile.gone p) ≡ true
 UnrefusedIn g (Held target) m p = Unit {0}

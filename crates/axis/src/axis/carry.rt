@@ -9,7 +9,7 @@ ghost use Rattle.axis.specs.Judging.{runs};
 ghost use Rattle.axis.specs.Plans.{leg_plan};
 
 use crate::axis::Axis;
-use crate::order::{Leg, Order};
+use crate::order::{DwellRow, Leg, Order};
 use crate::state::{Kind, State, Travel};
 use drive::direction::Direction;
 use drive::position::distance;
@@ -124,7 +124,7 @@ impl<D: Drive, P: Profile> Axis<D, P> {
             }
             Order::Dwell(run) => {
                 let plan = self.memory.table.row_plan(run.rates, 0).unwrap();
-                let travel = self.memory.row_travel(run, 0);
+                let travel = self.memory.row_travel(DwellRow { run, index: 0 });
                 self.begin(plan, travel);
             }
         }

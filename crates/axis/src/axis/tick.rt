@@ -7,7 +7,7 @@ ghost use Rattle.axis.specs.Ticks.{due, takes_all, steps_sent, moved, moved_on, 
 
 use crate::axis::Axis;
 use crate::flags::Pace;
-use crate::order::DwellRun;
+use crate::order::DwellRow;
 use crate::state::State;
 use drive::direction::Direction;
 use drive::send::send;
@@ -49,17 +49,17 @@ impl<D: Drive, P: Profile> Axis<D, P> {
     }
 
     // The tick that begins a row of a dwell move; where there is no such row, a full stop.
-    fn begin_row(&mut self, run: DwellRun, row: usize) -> i32
-        ensures steps { result ≡ row_steps D.Drive.G (meaning D.Drive P.Profile self.old) run row (P.Profile.means self.new.profile) }
-        ensures after { meaning D.Drive P.Profile self.new ≡ row_begun D.Drive.G (meaning D.Drive P.Profile self.old) run row (P.Profile.means self.new.profile) }
-        ensures uses { MatchBool (is_plan (row_plan (table_means self.old.memory.table) run.rates row)) (FirstTick (P.Profile.means self.old.profile) (row_plan (table_means self.old.memory.table) run.rates row) (P.Profile.means self.new.profile)) (P.Profile.means self.new.profile ≡ P.Profile.means self.old.profile) }
+    fn begin_row(&mut self, row: DwellRow) -> i32
+        ensures steps { result ≡ row_steps D.Drive.G (meaning D.Drive P.Profile self.old) row (P.Profile.means self.new.profile) }
+        ensures after { meaning D.Drive P.Profile self.new ≡ row_begun D.Drive.G (meaning D.Drive P.Profile self.old) row (P.Profile.means self.new.profile) }
+        ensures uses { MatchBool (is_plan (row_plan (table_means self.old.memory.table) row.run.rates row.index)) (FirstTick (P.Profile.means self.old.profile) (row_plan (table_means self.old.memory.table) row.run.rates row.index) (P.Profile.means self.new.profile)) (P.Profile.means self.new.profile ≡ P.Profile.means self.old.profile) }
         ensures none { result ≡ pos 0 → self.new.drive ≡ self.old.drive }
     {
-        let Ok(plan) = self.memory.table.row_plan(run.rates, row) else {
+        let Ok(plan) = self.memory.table.row_plan(row.run.rates, row.index) else {
             self.memory.stop();
             return 0;
         };
-        let travel = self.memory.row_travel(run, row);
+        let travel = self.memory.row_travel(row);
         self.begin(plan, travel);
         self.move_on(travel.direction)
     }
@@ -74,11 +74,10 @@ impl<D: Drive, P: Profile> Axis<D, P> {
     {
         match self.memory.state {
             State::Running(travel) | State::Holding(travel) => self.move_on(travel.direction),
-            State::Pausing { run, row, ticks: 0 } => self.begin_row(run, row),
-            State::Pausing { run, row, ticks } => {
+            State::Pausing { next, ticks: 0 } => self.begin_row(next),
+            State::Pausing { next, ticks } => {
                 self.memory.state = State::Pausing {
-                    run,
-                    row,
+                    next,
                     ticks: ticks - 1,
                 };
                 0

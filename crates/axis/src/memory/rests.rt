@@ -1,9 +1,10 @@
 // How the axis comes to rest.
 ghost use Rattle.std.specs.Prelude.{◌≡◌};
 ghost use Rattle.axis.specs.Memories.{memory_means};
-ghost use Rattle.axis.specs.Stops.{stopped, completed, rested, eased, ended, arrived, gone_on, halted_by_input};
+ghost use Rattle.axis.specs.Stops.{stopped, completed, rested, eased, ended, gone_on, halted_by_input};
 
 use super::Memory;
+use crate::order::DwellRow;
 use crate::state::{Kind, State, Travel};
 
 impl Memory {
@@ -41,7 +42,7 @@ impl Memory {
         match kind {
             Kind::Single(target) if place == target => self.complete(),
             Kind::Single(target) => self.state = State::Held(target),
-            Kind::Blend | Kind::Dwell { .. } => self.state = State::Idle,
+            Kind::Blend | Kind::Dwell(_) => self.state = State::Idle,
         }
     }
 
@@ -61,25 +62,16 @@ impl Memory {
         ensures { memory_means self.new ≡ ended (memory_means self.old) kind }
     {
         match kind {
-            Kind::Dwell { run, row } if self.table.has_after(row) => {
+            Kind::Dwell(row) if self.table.has_after(row.index) => {
                 self.state = State::Pausing {
-                    run,
-                    row: row + 1,
-                    ticks: run.dwell,
+                    next: DwellRow {
+                        index: row.index + 1,
+                        ..row
+                    },
+                    ticks: row.run.dwell,
                 };
             }
-            Kind::Single(_) | Kind::Blend | Kind::Dwell { .. } => self.complete(),
-        }
-    }
-
-    // Running goes on until nothing is left.
-    fn arrive(&mut self, done: bool, travel: Travel)
-        ensures { memory_means self.new ≡ arrived (memory_means self.old) done travel }
-    {
-        if done {
-            self.end(travel.kind);
-        } else {
-            self.state = State::Running(travel);
+            Kind::Single(_) | Kind::Blend | Kind::Dwell(_) => self.complete(),
         }
     }
 
@@ -88,9 +80,13 @@ impl Memory {
         ensures { memory_means self.new ≡ gone_on self.old.state (memory_means self.old) done place }
     {
         match self.state {
-            State::Running(travel) => self.arrive(done, travel),
+            State::Running(travel) if done => self.end(travel.kind),
             State::Holding(travel) => self.ease(done, place, travel),
-            State::Idle | State::Programming | State::Pausing { .. } | State::Held(_) => {}
+            State::Running(_)
+            | State::Idle
+            | State::Programming
+            | State::Pausing { .. }
+            | State::Held(_) => {}
         }
     }
 }

@@ -7,7 +7,7 @@ ghost use Rattle.axis.specs.Memories.{memory_means};
 
 use super::Memory;
 use crate::flags::Pace;
-use crate::order::DwellRun;
+use crate::order::DwellRow;
 use crate::state::{Kind, State, Travel};
 use block::bits::falling;
 use block::command::PROGRAM;
@@ -47,12 +47,12 @@ impl Memory {
     }
 
     // Along a row of the table.
-    pub(crate) fn row_travel(&self, run: DwellRun, row: usize) -> Travel
-        ensures { result ≡ row_travel (table_means self.now.table) run row }
+    pub(crate) fn row_travel(&self, row: DwellRow) -> Travel
+        ensures { result ≡ row_travel (table_means self.now.table) row }
     {
         Travel {
-            direction: self.table.row(row).direction(),
-            kind: Kind::Dwell { run, row },
+            direction: self.table.row(row.index).direction(),
+            kind: Kind::Dwell(row),
         }
     }
 
