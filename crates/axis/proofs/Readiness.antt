@@ -21,8 +21,9 @@ use Rattle.table.specs.declared.table.Table.{Table}
 use Rattle.axis.proofs.Orders.{Follows}
 use Rattle.axis.specs.Axes.{AxisMeans}
 use Rattle.axis.specs.Carrying.{Ready}
-use Rattle.axis.specs.Judging.{programs, in_range, speed_fits, rates_fit, pace_fits, rates_of, leg_of}
+use Rattle.axis.specs.Judging.{programs, in_range, speed_fits, rate_fits, rates_fit, pace_fits, distance_fits, segment_fits, rates_of, leg_of, segment_of}
 use Rattle.axis.specs.Plans.{leg_plan, blend_end}
+use Rattle.axis.specs.declared.numbers.Numbers.{Numbers}
 
 -- what the types of an axis say of its meaning, over a drive that goes at most g steps at once
 pub record Sane (g : ℕ) (m : AxisMeans) : Type 0 where
@@ -64,18 +65,20 @@ segment_near S r h =
 
 module _ (g : ℕ) (m : AxisMeans) (s : Sane g m) where
   rates : (b : Block) → rates_fit b ≡ true → ((1 ≤ (rates_of b).accel) × ((rates_of b).accel ≤ 5000)) × ((1 ≤ (rates_of b).decel) × ((rates_of b).decel ≤ 5000))
-  unfolding rates_fit
+  unfolding rates_fit rate_fits
   rates b e = let p = and_parts _ _ e in (within 1 5000 b.accel p.0, within 1 5000 b.decel p.1)
 
   speed : (v : ℤ) → speed_fits g m v ≡ true → (m.memory.table.start ≤ nat_abs v) × (nat_abs v ≤ 200000)
   unfolding speed_fits
   speed v e = let p = within m.memory.table.start (1000 * g) v e in (p.0, omega (arith, p.1, s.reach))
 
-  leg_lawful : (b : Block) (target v : ℤ) → pace_fits g m b v ≡ true → goes_to m.drive.place target ≡ true → Lawful (leg_plan m (leg_of b target v))
+  leg_lawful : (numbers : Numbers) → pace_fits g m numbers ≡ true → goes_to m.drive.place numbers.place ≡ true → Lawful (leg_plan m (leg_of numbers))
   unfolding pace_fits are_rows steps_of
-  leg_lawful b target v e h =
-      let p = and_parts (speed_fits g m v) (rates_fit b) e in
-      let a = rates b p.1 in
+  leg_lawful numbers e h =
+      let target = numbers.place in
+      let v = numbers.speed in
+      let p = and_parts (speed_fits g m v) (rates_fit numbers.block) e in
+      let a = rates numbers.block p.1 in
       let q = speed v p.0 in
       let w = some_way m.drive.place target h in
       let n = distance m.drive.place target in
@@ -135,16 +138,18 @@ module _ (g : ℕ) (m : AxisMeans) (s : Sane g m) where
       }
 
   segment_taken :
-      (d v : ℤ) → (programs m.memory.state && has_room m.memory.table) ≡ true
-      → (not (eqb (nat_abs d) 0) && (is_position d && speed_fits g m v)) ≡ true
-      → takes m.memory.table (record { distance = d; speed = nat_abs v }) ≡ true
-  segment_taken d v a h =
-      let w = and_parts (not (eqb (nat_abs d) 0)) _ h in
-      let c = and_parts (is_position d) (speed_fits g m v) w.1 in
+      (n : Numbers) → (programs m.memory.state && has_room m.memory.table) ≡ true → segment_fits g m n ≡ true
+      → takes m.memory.table (segment_of n) ≡ true
+  unfolding distance_fits
+  segment_taken n a h =
+      let d = n.place in
+      let v = n.speed in
+      let c = and_parts (distance_fits d) (speed_fits g m v) h in
+      let w = and_parts (not (eqb (nat_abs d) 0)) (is_position d) c.0 in
       let q = speed v c.1 in
       and_from (has_room m.memory.table) _ (and_parts (programs m.memory.state) _ a).1
       (and_from (not (eqb (nat_abs d) 0)) _ w.0
-      (and_from (is_position d) _ c.0
+      (and_from (is_position d) _ w.1
       (and_from (leb m.memory.table.start (nat_abs v)) _ (le-leb _ _ q.0) (le-leb _ _ q.1))))
 
   -- what a block orders can be carried out
@@ -152,13 +157,13 @@ module _ (g : ℕ) (m : AxisMeans) (s : Sane g m) where
   ready =
       record {
         nothing = tt;
-        go = λ b target v p i w. leg_lawful b target v p w;
+        go = λ n p i w. leg_lawful n p w;
         hold = tt;
         stop = tt;
         preset = λ x h. h;
         reset = λ trip. tt;
         program = tt;
-        segment = λ d v a h. segment_taken d v a h;
+        segment = λ n a h. segment_taken n a h;
         blend = λ b p i r w. blend_lawful b p r (some_way m.drive.place (blend_end m (direction_of b)) w).1;
         dwell = λ b p i r w. row_lawful b p r;
       }

@@ -13,6 +13,7 @@ use Rattle.block.specs.declared.refusal.Refusal.{Refusal}
 use Rattle.block.specs.declared.refusal.Refusal.TheVariants as refusal
 use Rattle.table.specs.Courses.{goes_to, stays_on, is_clear, are_clear}
 use Rattle.table.specs.Tables.{has_room}
+use Rattle.table.specs.declared.segment.Segment.{Segment}
 use Rattle.axis.specs.Axes.{AxisMeans}
 use Rattle.axis.specs.Plans.{blend_end}
 use Rattle.axis.specs.declared.numbers.Numbers.{Numbers}
@@ -107,8 +108,11 @@ in_range low high n = not (int_lt n low) && not (int_lt high n)
 unfoldable pub speed_fits : ℕ → AxisMeans → ℤ → Bool
 speed_fits g m v = in_range (pos m.memory.table.start) (pos (1000 * g)) v
 
+unfoldable pub rate_fits : ℤ → Bool
+rate_fits n = in_range (pos 1) (pos 5000) n
+
 unfoldable pub rates_fit : Block → Bool
-rates_fit b = in_range (pos 1) (pos 5000) b.accel && in_range (pos 1) (pos 5000) b.decel
+rates_fit b = rate_fits b.accel && rate_fits b.decel
 
 unfoldable pub dwell_fits : Block → Bool
 dwell_fits b = in_range (pos 0) (pos 30000) b.dwell
@@ -117,8 +121,11 @@ dwell_fits b = in_range (pos 0) (pos 30000) b.dwell
 abbrev pub rates_of : Block → Rates
 rates_of b = record { accel = unsigned_abs b.accel; decel = unsigned_abs b.decel }
 
-abbrev pub leg_of : Block → ℤ → ℤ → Leg
-leg_of b target v = record { target = target; speed = unsigned_abs v; rates = rates_of b }
+abbrev pub leg_of : Numbers → Leg
+leg_of n = record { target = n.place; speed = unsigned_abs n.speed; rates = rates_of n.block }
+
+abbrev pub segment_of : Numbers → Segment
+segment_of n = record { distance = n.place; speed = unsigned_abs n.speed }
 
 abbrev pub run_of : Block → DwellRun
 run_of b = record { rates = rates_of b; dwell = unsigned_abs b.dwell }
@@ -128,55 +135,63 @@ unfoldable pub inhibited : AxisMeans → Bool
 inhibited m = m.memory.flags.input || (m.memory.levels.estop || m.drive.tripped)
 
 -- Does the move go at least one step, and is its end a position? Is the limit off in its direction?
-abbrev pub on_course : AxisMeans → ℤ → Direction → Order → Result Order Refusal
-on_course m target way o =
+abbrev pub on_course : AxisMeans → ℤ → Direction → Result (Unit {0}) Refusal
+on_course m target way =
     asked (goes_to m.drive.place target) refusal.Course
-    (asked (is_clear m.memory.levels.limits way) refusal.Limit (Ok o))
+    (asked (is_clear m.memory.levels.limits way) refusal.Limit (Ok tt))
+
+-- on its course the move is this order
+abbrev pub on_its_course : AxisMeans → ℤ → Direction → Order → Result Order Refusal
+on_its_course m target way o = then_ask (on_course m target way) (λ done. Ok o)
 
 -- the questions from the seventh on, for a single move to a target
 unfoldable pub go_judged : AxisMeans → Leg → Result Order Refusal
-go_judged m leg = on_course m leg.target (toward m.drive.place leg.target) (order.Go leg)
+go_judged m leg = on_its_course m leg.target (toward m.drive.place leg.target) (order.Go leg)
 
 -- the speed and the rates of a move
-unfoldable pub pace_fits : ℕ → AxisMeans → Block → ℤ → Bool
-pace_fits g m b v = speed_fits g m v && rates_fit b
+unfoldable pub pace_fits : ℕ → AxisMeans → Numbers → Bool
+pace_fits g m n = speed_fits g m n.speed && rates_fit n.block
+
+-- Does nothing inhibit a move?
+unfoldable pub may_move : AxisMeans → Result (Unit {0}) Refusal
+may_move m = asked (not (inhibited m)) refusal.Inhibited (Ok tt)
 
 -- what every move is asked: that its numbers are in range, and that nothing inhibits it
-abbrev pub may_move : AxisMeans → Bool → Result (Unit {0}) Refusal
-may_move m fits = asked fits refusal.Range (asked (not (inhibited m)) refusal.Inhibited (Ok tt))
-
 abbrev pub move_asked : AxisMeans → Bool → Result Order Refusal → Result Order Refusal
-move_asked m fits next = then_ask (may_move m fits) (λ done. next)
+move_asked m fits next = asked fits refusal.Range (then_ask (may_move m) (λ done. next))
 
 -- a single move to a target, beyond how the target is found
-abbrev pub leg_asked : ℕ → AxisMeans → Block → ℤ → ℤ → Result Order Refusal
-leg_asked g m b target v = move_asked m (pace_fits g m b v) (go_judged m (leg_of b target v))
+abbrev pub leg_asked : ℕ → AxisMeans → Numbers → Result Order Refusal
+leg_asked g m n = move_asked m (pace_fits g m n) (go_judged m (leg_of n))
 
--- for an absolute move the position has to be valid, which is asked before its course
-abbrev pub absolute_asked : ℕ → AxisMeans → Block → ℤ → ℤ → Result Order Refusal
-absolute_asked g m b target v =
-    asked (is_position target) refusal.Range
-    (move_asked m (pace_fits g m b v)
-    (asked (not m.memory.flags.invalid) refusal.PositionInvalid
-    (go_judged m (leg_of b target v))))
+-- for an absolute move the position of the axis has to be valid, which is asked before its course
+abbrev pub valid_asked : ℕ → AxisMeans → Numbers → Result Order Refusal
+valid_asked g m n =
+    move_asked m (pace_fits g m n) (asked (not m.memory.flags.invalid) refusal.PositionInvalid (go_judged m (leg_of n)))
 
-abbrev pub relative_asked : ℕ → AxisMeans → Block → ℤ → ℤ → Result Order Refusal
-relative_asked g m b offset v =
-    asked (is_position offset) refusal.Range (leg_asked g m b (m.drive.place +ℤ offset) v)
+abbrev pub absolute_asked : ℕ → AxisMeans → Numbers → Result Order Refusal
+absolute_asked g m n = asked (is_position n.place) refusal.Range (valid_asked g m n)
+
+-- a relative move goes to where its offset leads
+abbrev pub led_to : AxisMeans → Numbers → Numbers
+led_to m n = record { block = n.block; place = m.drive.place +ℤ n.place; speed = n.speed }
+
+abbrev pub relative_asked : ℕ → AxisMeans → Numbers → Result Order Refusal
+relative_asked g m n = asked (is_position n.place) refusal.Range (leg_asked g m (led_to m n))
 
 abbrev pub absolute_judged : ℕ → AxisMeans → Block → Result Order Refusal
-absolute_judged g m b = then_ask (numbers_of b) (λ n. absolute_asked g m n.block n.place n.speed)
+absolute_judged g m b = then_ask (numbers_of b) (absolute_asked g m)
 
 abbrev pub relative_judged : ℕ → AxisMeans → Block → Result Order Refusal
-relative_judged g m b = then_ask (numbers_of b) (λ n. relative_asked g m n.block n.place n.speed)
+relative_judged g m b = then_ask (numbers_of b) (relative_asked g m)
 
 abbrev pub resume_judged : ℕ → AxisMeans → Block → ℤ → Result Order Refusal
-resume_judged g m b target = said (decoded b.speed) (λ v. leg_asked g m b target v)
+resume_judged g m b target = said (decoded b.speed) (λ v. leg_asked g m (record { block = b; place = target; speed = v }))
 
 abbrev pub blend_judged : AxisMeans → Block → Result Order Refusal
 blend_judged m b =
     move_asked m (rates_fit b)
-    (on_course m (blend_end m (direction_of b)) (direction_of b) (order.Blend (direction_of b) (rates_of b)))
+    (on_its_course m (blend_end m (direction_of b)) (direction_of b) (order.Blend (direction_of b) (rates_of b)))
 
 -- each row of a dwell move is asked
 abbrev pub dwell_judged : AxisMeans → Block → Result Order Refusal
@@ -190,16 +205,17 @@ abbrev pub preset_judged : Block → Result Order Refusal
 preset_judged b = said (decoded b.place) (λ p. asked (is_position p) refusal.Range (Ok (order.Preset p)))
 
 -- a row of the table: not of 0 steps, and within the positions
-abbrev pub segment_fits : ℕ → AxisMeans → ℤ → ℤ → Bool
-segment_fits g m d v = not (unsigned_abs d == 0) && (is_position d && speed_fits g m v)
+unfoldable pub distance_fits : ℤ → Bool
+distance_fits d = not (unsigned_abs d == 0) && is_position d
 
-abbrev pub segment_asked : ℕ → AxisMeans → ℤ → ℤ → Result Order Refusal
-segment_asked g m d v =
-    asked (segment_fits g m d v) refusal.Range
-    (Ok (order.Segment (record { distance = d; speed = unsigned_abs v })))
+abbrev pub segment_fits : ℕ → AxisMeans → Numbers → Bool
+segment_fits g m n = distance_fits n.place && speed_fits g m n.speed
+
+abbrev pub segment_asked : ℕ → AxisMeans → Numbers → Result Order Refusal
+segment_asked g m n = asked (segment_fits g m n) refusal.Range (Ok (order.Segment (segment_of n)))
 
 abbrev pub segment_judged : ℕ → AxisMeans → Block → Result Order Refusal
-segment_judged g m b = then_ask (numbers_of b) (λ n. segment_asked g m n.place n.speed)
+segment_judged g m b = then_ask (numbers_of b) (segment_asked g m)
 
 -- a command that the state allows
 abbrev pub values_judged : ℕ → AxisMeans → Block → Command → Result Order Refusal

@@ -1,5 +1,5 @@
 -- A block keeps the axis fit.
-use Rattle.std.proofs.Common.{◌≡◌, ℕ, ◌*◌, ◌<◌, ◌≤◌, true, false, not, eqb, [], ◌∷◌, length, ℤ, ◌+ℤ◌, nat_abs, Ok, Err, MatchBool, Result, refl, ap, ◌∙◌, arith}
+use Rattle.std.proofs.Common.{◌≡◌, ℕ, ◌*◌, ◌<◌, ◌≤◌, true, false, not, [], ◌∷◌, length, ℤ, ◌+ℤ◌, nat_abs, Ok, Err, MatchBool, Result, refl, ap, ◌∙◌, arith}
 use Rattle.std.proofs.lemmas.Bool.{and_parts, not-true, or_parts, false≢true}
 use Rattle.drive.proofs.Landings.{toward_reaches}
 use Rattle.drive.specs.Directions.{signed, toward}
@@ -26,7 +26,7 @@ use Rattle.axis.specs.Memories.{MemoryMeans, with_table, with_state, with_kept}
 use Rattle.axis.specs.Blocks.{closes, kept_by, finished, UsesBy, kept_axis, order_of, after, UsesOf}
 use Rattle.axis.specs.Carrying.{began, go_travel, held, carried, Uses, Ready}
 use Rattle.unrefused.specs.Fits.{InPause, Underway, Fit}
-use Rattle.axis.specs.Judging.{programs, runs, inhibited, speed_fits, rates_fit, pace_fits}
+use Rattle.axis.specs.Judging.{programs, runs, inhibited, speed_fits, rates_fit, pace_fits, distance_fits}
 use Rattle.axis.specs.Plans.{leg_plan, blend_end}
 use Rattle.axis.specs.declared.order.DwellRow.{DwellRow}
 use Rattle.axis.specs.declared.order.Leg.{Leg}
@@ -57,22 +57,19 @@ module _ (g : ℕ) (m : AxisMeans) where
   unfolding speed_fits
   speed v e = (within m.memory.table.start (1000 * g) v e).1
 
-  pace : (b : Block) (v : ℤ) → pace_fits g m b v ≡ true → nat_abs v ≤ 1000 * g
-  unfolding pace_fits
-  pace b v e = speed v (and_parts (speed_fits g m v) (rates_fit b) e).0
-
   are_asked : Follows g m (Asked g m)
+  unfolding pace_fits
   are_asked =
       record {
         nothing = tt;
-        go = λ b target v p i w. (untripped i, pace b v p, (some_way m.drive.place target w).1);
+        go = λ n p i w. (untripped i, speed n.speed (and_parts (speed_fits g m n.speed) (rates_fit n.block) p).0, (some_way m.drive.place n.place w).1);
         hold = tt;
         stop = tt;
         preset = λ x h. tt;
         reset = λ trip. tt;
         program = tt;
-        segment = λ d v a h.
-            ((and_parts (programs m.memory.state) _ a).0, speed v (and_parts (is_position d) (speed_fits g m v) (and_parts (not (eqb (nat_abs d) 0)) _ h).1).1);
+        segment = λ n a h.
+            ((and_parts (programs m.memory.state) _ a).0, speed n.speed (and_parts (distance_fits n.place) (speed_fits g m n.speed) h).1);
         blend = λ b p i r w. (untripped i, (some_way m.drive.place (blend_end m (direction_of b)) w).1);
         dwell = λ b p i r w. (untripped i, r, w);
       }

@@ -1,7 +1,7 @@
 // A block is judged first, which changes nothing: what it orders, or why it is refused.
-ghost use Rattle.std.specs.Prelude.{◌≡◌, ◌≤◌, pos, ◌+ℤ◌, unsigned_abs};
+ghost use Rattle.std.specs.Prelude.{◌≡◌, ◌≤◌, ◌&&◌, Ok, ◌+ℤ◌, unsigned_abs};
 ghost use Rattle.axis.specs.Axes.{meaning};
-ghost use Rattle.axis.specs.Judging.{allowed, inhibited as inhibited_of, in_range, speed_fits, rates_fit, rates_of, leg_of, dwell_fits, run_of, pace_fits, segment_fits, go_judged, on_course, may_move, absolute_asked, relative_asked, segment_asked, leg_asked, resume_judged, blend_judged, dwell_judged, preset_judged, values_judged, judged};
+ghost use Rattle.axis.specs.Judging.{asked, allowed, inhibited as inhibited_of, speed_fits, rate_fits, rates_fit, rates_of, leg_of, dwell_fits, run_of, pace_fits, distance_fits, segment_fits, segment_of, go_judged, on_course, may_move, valid_asked, absolute_asked, relative_asked, segment_asked, leg_asked, resume_judged, blend_judged, dwell_judged, preset_judged, values_judged, judged};
 
 use crate::axis::Axis;
 use crate::numbers::{Numbers, number};
@@ -18,55 +18,58 @@ use profile::traits::Profile;
 use table::course::{goes_to, stays_on};
 use table::segment::Segment;
 
-// Whether an acceleration or a deceleration is in range.
-fn rate_fits(rate: i16) -> bool
-    ensures { result ≡ in_range (pos 1) (pos 5000) rate }
+// An acceleration or a deceleration, where it is in range.
+#[tactic(auto, unfolding(crate::specs::Judging::rate_fits))]
+fn rate(number: i16) -> Result<u32, Refusal>
+    ensures { result ≡ asked (rate_fits number) Refusal.Range (Ok (unsigned_abs number)) }
 {
-    (1..=5000).contains(&rate)
+    if !(1..=5000).contains(&number) {
+        return Err(Refusal::Range);
+    }
+    Ok(u32::from(number.unsigned_abs()))
 }
 
+// Both rates of a block.
 #[tactic(auto, unfolding(crate::specs::Judging::rates_fit))]
-fn rates_fit(block: Block) -> bool
-    ensures { result ≡ rates_fit block }
+fn rates_of(block: Block) -> Result<Rates, Refusal>
+    ensures { result ≡ asked (rates_fit block) Refusal.Range (Ok (rates_of block)) }
 {
-    rate_fits(block.accel) && rate_fits(block.decel)
+    Ok(Rates {
+        accel: rate(block.accel)?,
+        decel: rate(block.decel)?,
+    })
 }
 
-// The numbers of a block stand for these only once they are in range, so neither this nor those below are a `From`.
-fn rates_of(block: Block) -> Rates
-    ensures { result ≡ rates_of block }
-{
-    Rates {
-        accel: u32::from(block.accel.unsigned_abs()),
-        decel: u32::from(block.decel.unsigned_abs()),
-    }
-}
-
-// The numbers of a single move to their place.
-fn leg_of(numbers: Numbers) -> Leg
-    ensures { result ≡ leg_of numbers.block numbers.place numbers.speed }
-{
-    Leg {
-        target: numbers.place,
-        speed: numbers.speed.unsigned_abs(),
-        rates: rates_of(numbers.block),
-    }
-}
-
+// The ticks between the rows of a run, where they are in range.
 #[tactic(auto, unfolding(crate::specs::Judging::dwell_fits))]
-fn dwell_fits(block: Block) -> bool
-    ensures { result ≡ dwell_fits block }
+fn dwell_of(block: Block) -> Result<u32, Refusal>
+    ensures { result ≡ asked (dwell_fits block) Refusal.Range (Ok (unsigned_abs block.dwell)) }
 {
-    (0..=30_000).contains(&block.dwell)
+    if !(0..=30_000).contains(&block.dwell) {
+        return Err(Refusal::Range);
+    }
+    Ok(u32::from(block.dwell.unsigned_abs()))
 }
 
-fn run_of(block: Block) -> DwellRun
-    ensures { result ≡ run_of block }
+// A run row by row, where its numbers are in range.
+fn run_of(block: Block) -> Result<DwellRun, Refusal>
+    ensures { result ≡ asked (rates_fit block && dwell_fits block) Refusal.Range (Ok (run_of block)) }
 {
-    DwellRun {
-        rates: rates_of(block),
-        dwell: u32::from(block.dwell.unsigned_abs()),
+    Ok(DwellRun {
+        rates: rates_of(block)?,
+        dwell: dwell_of(block)?,
+    })
+}
+
+// The distance of a row: not 0, and within the positions.
+#[tactic(auto, unfolding(crate::specs::Judging::distance_fits))]
+fn distance(number: i32) -> Result<i32, Refusal>
+    ensures { result ≡ asked (distance_fits number) Refusal.Range (Ok number) }
+{
+    if number == 0 || !is_position(number) {
+        return Err(Refusal::Range);
     }
+    Ok(number)
 }
 
 fn judge_preset(block: Block) -> Result<Order, Refusal>
@@ -108,36 +111,34 @@ impl<D: Drive, P: Profile> Axis<D, P> {
         self.memory.flags.input || self.memory.levels.estop || self.drive.tripped()
     }
 
-    // Is a speed within the starting speed and what the drive goes in a tick?
+    // A speed from the starting speed to what the drive goes in a tick.
     #[tactic(auto, unfolding(crate::specs::Judging::speed_fits))]
-    fn speed_fits(&self, speed: i32) -> bool
-        ensures { result ≡ speed_fits D.Drive.G (meaning D.Drive P.Profile self.now) speed }
+    fn speed(&self, number: i32) -> Result<u32, Refusal>
+        ensures { result ≡ asked (speed_fits D.Drive.G (meaning D.Drive P.Profile self.now) number) Refusal.Range (Ok (unsigned_abs number)) }
     {
-        (self.memory.table.start() as i32..=(1000 * D::G) as i32).contains(&speed)
-    }
-
-    // Are the speed and the rates of a move in range?
-    #[tactic(auto, unfolding(crate::specs::Judging::pace_fits))]
-    fn pace_fits(&self, numbers: Numbers) -> bool
-        ensures { result ≡ pace_fits D.Drive.G (meaning D.Drive P.Profile self.now) numbers.block numbers.speed }
-    {
-        self.speed_fits(numbers.speed) && rates_fit(numbers.block)
-    }
-
-    // Are the distance and the speed of a row in range?
-    fn segment_fits(&self, numbers: Numbers) -> bool
-        ensures { result ≡ segment_fits D.Drive.G (meaning D.Drive P.Profile self.now) numbers.place numbers.speed }
-    {
-        numbers.place != 0 && is_position(numbers.place) && self.speed_fits(numbers.speed)
-    }
-
-    // Are the numbers of a move in range, and is nothing on that inhibits it?
-    fn ask_move(&self, fits: bool) -> Result<(), Refusal>
-        ensures { result ≡ may_move (meaning D.Drive P.Profile self.now) fits }
-    {
-        if !fits {
+        if !(self.memory.table.start() as i32..=(1000 * D::G) as i32).contains(&number) {
             return Err(Refusal::Range);
         }
+        Ok(number.unsigned_abs())
+    }
+
+    // A single move to the place of the numbers, where its speed and its rates are in range.
+    #[tactic(auto, unfolding(crate::specs::Judging::pace_fits))]
+    fn leg_of(&self, numbers: Numbers) -> Result<Leg, Refusal>
+        ensures { result ≡ asked (pace_fits D.Drive.G (meaning D.Drive P.Profile self.now) numbers) Refusal.Range (Ok (leg_of numbers)) }
+    {
+        Ok(Leg {
+            target: numbers.place,
+            speed: self.speed(numbers.speed)?,
+            rates: rates_of(numbers.block)?,
+        })
+    }
+
+    // Is nothing on that inhibits a move?
+    #[tactic(auto, unfolding(crate::specs::Judging::may_move))]
+    fn ask_move(&self) -> Result<(), Refusal>
+        ensures { result ≡ may_move (meaning D.Drive P.Profile self.now) }
+    {
         if self.is_inhibited() {
             return Err(Refusal::Inhibited);
         }
@@ -145,8 +146,8 @@ impl<D: Drive, P: Profile> Axis<D, P> {
     }
 
     // Does a move to a target go at least one step to a position, and is the limit in its direction off?
-    fn on_course(&self, target: i32, direction: Direction, order: Order) -> Result<Order, Refusal>
-        ensures { result ≡ on_course (meaning D.Drive P.Profile self.now) target direction order }
+    fn ask_course(&self, target: i32, direction: Direction) -> Result<(), Refusal>
+        ensures { result ≡ on_course (meaning D.Drive P.Profile self.now) target direction }
     {
         if !goes_to(self.drive.place(), target) {
             return Err(Refusal::Course);
@@ -154,7 +155,7 @@ impl<D: Drive, P: Profile> Axis<D, P> {
         if !self.memory.levels.limits.is_clear(direction) {
             return Err(Refusal::Limit);
         }
-        Ok(order)
+        Ok(())
     }
 
     #[tactic(auto, unfolding(crate::specs::Judging::go_judged))]
@@ -162,20 +163,29 @@ impl<D: Drive, P: Profile> Axis<D, P> {
         ensures { result ≡ go_judged (meaning D.Drive P.Profile self.now) leg }
     {
         let direction = Direction::toward(self.drive.place(), leg.target);
-        self.on_course(leg.target, direction, Order::Go(leg))
+        self.ask_course(leg.target, direction)?;
+        Ok(Order::Go(leg))
     }
 
     fn judge_absolute(&self, numbers: Numbers) -> Result<Order, Refusal>
-        ensures { result ≡ absolute_asked D.Drive.G (meaning D.Drive P.Profile self.now) numbers.block numbers.place numbers.speed }
+        ensures { result ≡ absolute_asked D.Drive.G (meaning D.Drive P.Profile self.now) numbers }
     {
         if !is_position(numbers.place) {
             return Err(Refusal::Range);
         }
-        self.ask_move(self.pace_fits(numbers))?;
+        self.judge_valid(numbers)
+    }
+
+    // A move to a target that is a position, for which the position of the axis has to be valid.
+    fn judge_valid(&self, numbers: Numbers) -> Result<Order, Refusal>
+        ensures { result ≡ valid_asked D.Drive.G (meaning D.Drive P.Profile self.now) numbers }
+    {
+        let leg = self.leg_of(numbers)?;
+        self.ask_move()?;
         if self.memory.flags.invalid {
             return Err(Refusal::PositionInvalid);
         }
-        self.judge_go(leg_of(numbers))
+        self.judge_go(leg)
     }
 
     // Where an offset leads: that of a move, or all the steps of a table.
@@ -187,7 +197,7 @@ impl<D: Drive, P: Profile> Axis<D, P> {
     }
 
     fn judge_relative(&self, numbers: Numbers) -> Result<Order, Refusal>
-        ensures { result ≡ relative_asked D.Drive.G (meaning D.Drive P.Profile self.now) numbers.block numbers.place numbers.speed }
+        ensures { result ≡ relative_asked D.Drive.G (meaning D.Drive P.Profile self.now) numbers }
     {
         if !is_position(numbers.place) {
             return Err(Refusal::Range);
@@ -211,29 +221,29 @@ impl<D: Drive, P: Profile> Axis<D, P> {
 
     // A move to a target that an offset leads to, or that is held.
     fn judge_leg(&self, numbers: Numbers) -> Result<Order, Refusal>
-        ensures { result ≡ leg_asked D.Drive.G (meaning D.Drive P.Profile self.now) numbers.block numbers.place numbers.speed }
+        ensures { result ≡ leg_asked D.Drive.G (meaning D.Drive P.Profile self.now) numbers }
     {
-        self.ask_move(self.pace_fits(numbers))?;
-        self.judge_go(leg_of(numbers))
+        let leg = self.leg_of(numbers)?;
+        self.ask_move()?;
+        self.judge_go(leg)
     }
 
     fn judge_blend(&self, block: Block) -> Result<Order, Refusal>
         ensures { result ≡ blend_judged (meaning D.Drive P.Profile self.now) block }
     {
-        self.ask_move(rates_fit(block))?;
+        let rates = rates_of(block)?;
+        self.ask_move()?;
         let direction = block.direction();
         let offset = direction.signed(self.memory.table.blend_steps() as u64);
-        self.on_course(
-            self.offset_end(offset),
-            direction,
-            Order::Blend(direction, rates_of(block)),
-        )
+        self.ask_course(self.offset_end(offset), direction)?;
+        Ok(Order::Blend(direction, rates))
     }
 
     fn judge_dwell(&self, block: Block) -> Result<Order, Refusal>
         ensures { result ≡ dwell_judged (meaning D.Drive P.Profile self.now) block }
     {
-        self.ask_move(rates_fit(block) && dwell_fits(block))?;
+        let run = run_of(block)?;
+        self.ask_move()?;
         if !stays_on(self.drive.place(), self.memory.table.rows()) {
             return Err(Refusal::Course);
         }
@@ -245,19 +255,23 @@ impl<D: Drive, P: Profile> Axis<D, P> {
         {
             return Err(Refusal::Limit);
         }
-        Ok(Order::Dwell(run_of(block)))
+        Ok(Order::Dwell(run))
+    }
+
+    // A row of the table, where its distance and its speed are in range.
+    fn segment_of(&self, numbers: Numbers) -> Result<Segment, Refusal>
+        ensures { result ≡ asked (segment_fits D.Drive.G (meaning D.Drive P.Profile self.now) numbers) Refusal.Range (Ok (segment_of numbers)) }
+    {
+        Ok(Segment {
+            speed: self.speed(numbers.speed)?,
+            distance: distance(numbers.place)?,
+        })
     }
 
     fn judge_segment(&self, numbers: Numbers) -> Result<Order, Refusal>
-        ensures { result ≡ segment_asked D.Drive.G (meaning D.Drive P.Profile self.now) numbers.place numbers.speed }
+        ensures { result ≡ segment_asked D.Drive.G (meaning D.Drive P.Profile self.now) numbers }
     {
-        if !self.segment_fits(numbers) {
-            return Err(Refusal::Range);
-        }
-        Ok(Order::Segment(Segment {
-            distance: numbers.place,
-            speed: numbers.speed.unsigned_abs(),
-        }))
+        Ok(Order::Segment(self.segment_of(numbers)?))
     }
 
     // Judges the values of a command that the state allows.
