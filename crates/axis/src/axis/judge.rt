@@ -29,7 +29,7 @@ fn rate(number: i16) -> Result<u32, Refusal>
     Ok(u32::from(number.unsigned_abs()))
 }
 
-// Both rates of a block.
+// Both rates of a block. The types are those of other crates, so this is no `TryFrom`; those below are written like it.
 #[tactic(auto, unfolding(crate::specs::Judging::rates_fit))]
 fn rates_of(block: Block) -> Result<Rates, Refusal>
     ensures { result ≡ asked (rates_fit block) Refusal.Range (Ok (rates_of block)) }
