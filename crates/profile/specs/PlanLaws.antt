@@ -1,6 +1,7 @@
 -- What holds of every plan.
 use Rattle.std.specs.Prelude.{◌<◌, ◌≤◌, Some, None, Option}
 use Rattle.std.proofs.Common.{arith}
+use Rattle.std.proofs.lemmas.List.{length-take}
 use Rattle.profile.specs.Plans.{PlanMeans, Lawful, plan_means, plan_of, plan_steps, way_of}
 use Rattle.profile.specs.Profiles.{LawfulOf, start_of, fastest}
 use Rattle.profile.specs.declared.plan.Plan.{Plan}
@@ -12,7 +13,7 @@ lawful p =
       starts = p.starts;
       gains = p.gains;
       slows = p.slows;
-      few = (p.some, p.few);
+      few = (p.some, omega (arith, length-take p.count p.rows, p.few));
       each = p.each;
       near = omega (arith, p.summed, p.near);
     }

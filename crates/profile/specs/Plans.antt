@@ -1,5 +1,5 @@
 -- A plan: a starting speed, an acceleration, a deceleration and rows of steps and speed.
-use Rattle.std.specs.Prelude.{◌≡◌, ℕ, ◌*◌, ◌≤◌, true, cond, not, List, length, Some, None, Option, Result, MatchResult, nat_lt}
+use Rattle.std.specs.Prelude.{◌≡◌, ℕ, ◌*◌, ◌≤◌, true, cond, not, List, length, take, Some, None, Option, Result, MatchResult, nat_lt}
 use Rattle.profile.specs.Ranges.{outside}
 use Rattle.profile.specs.Rows.{are_rows, steps_of, top_of}
 use Rattle.profile.specs.declared.fault.PlanFault.{PlanFault}
@@ -14,7 +14,7 @@ pub record PlanMeans : Type 0 where
   pub rows : List Row
 
 abbrev pub plan_means : Plan → PlanMeans
-plan_means p = record { start = p.start; accel = p.rates.accel; decel = p.rates.decel; rows = p.rows }
+plan_means p = record { start = p.start; accel = p.rates.accel; decel = p.rates.decel; rows = take p.count p.rows }
 
 abbrev pub plan_steps : PlanMeans → ℕ
 plan_steps m = steps_of m.rows

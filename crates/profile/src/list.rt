@@ -1,12 +1,11 @@
 // A list of rows in fixed memory.
-ghost use Rattle.std.specs.Prelude.{◌≡◌, ◌==◌, ◌≤◌, ◌++◌, ◌∷◌, [], length, if◌then◌else◌, nat_lt, nat_le, Some, None, Ok, Err};
+ghost use Rattle.std.specs.Prelude.{◌≡◌, ◌==◌, ◌≤◌, ◌++◌, ◌∷◌, [], length, if◌then◌else◌, nat_lt, nat_le, take, Some, None, Ok, Err};
 
 use crate::row::Row;
 use std::marker::Model;
 
 // At most sixteen rows, the first `count` of the array. The places past them hold no steps and no speed, so equal lists have equal fields.
-// No heap, by a rule of the project. With an `ArrayVec` plans and the lines of a script would not be `Copy`, as whoever holds them may
-// count on.
+// No heap, by a rule of the project. With an `ArrayVec` the lines of a script would not be `Copy`, as whoever holds them may count on.
 #[derive(Clone, Copy, PartialEq, Eq, Debug)]
 pub struct RowList {
     rows: [Row; 16],
@@ -70,6 +69,15 @@ impl RowList {
         ensures few { length self.now ≤ 16 }
     {
         &self.rows[..self.count]
+    }
+
+    // Its places, and how many of them hold its rows.
+    pub(crate) fn into_places(self) -> ([Row; 16], usize)
+        ensures rows { take result.1 result.0 ≡ self }
+        ensures few { result.1 ≤ 16 }
+    {
+        let rows = self.rows;
+        (rows, self.count)
     }
 
     pub fn len(&self) -> usize

@@ -44,7 +44,7 @@ impl<D: Drive, P: Profile> Axis<D, P> {
         ensures drive { calls_of calls_drive D.Drive.G (meaning D.Drive P.Profile self.old) (block_of words.now) ≡ false → self.new.drive ≡ self.old.drive }
         ensures profile { calls_of calls_profile D.Drive.G (meaning D.Drive P.Profile self.old) (block_of words.now) ≡ false → self.new.profile ≡ self.old.profile }
     {
-        let block = Block::read(words)?;
+        let block = Block::try_from(words)?;
         self.obey(block)
     }
 }

@@ -38,7 +38,7 @@ impl Plan {
     pub fn rows(&self) -> &[Row]
         ensures { result.now ≡ (plan_means self.now).rows }
     {
-        self.rows.as_slice()
+        &self.rows[..self.count]
     }
 
     // The steps of all rows.

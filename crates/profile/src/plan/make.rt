@@ -28,7 +28,7 @@ impl Plan {
         if rows.is_empty() {
             return Err(PlanFault::RowCount);
         }
-        let list = RowList::of(rows).ok_or(PlanFault::RowCount)?;
+        let (places, count) = RowList::of(rows).ok_or(PlanFault::RowCount)?.into_places();
         if !are_rows(start, rows) {
             return Err(PlanFault::Row);
         }
@@ -39,7 +39,8 @@ impl Plan {
         Ok(Plan {
             start,
             rates,
-            rows: list,
+            rows: places,
+            count,
             steps: all.steps as u32,
             top: all.top,
         })
