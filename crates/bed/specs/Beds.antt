@@ -1,19 +1,17 @@
 -- The bed that the words of a line name.
-use Rattle.std.specs.Prelude.{ℕ, cond, List, Ok, Err, codes, Result, drop}
+use Rattle.std.specs.Prelude.{ℕ, cond, List, [], ◌∷◌, Ok, Err, codes, Result, drop}
 use Rattle.std.specs.Str.{bytes_eq}
 use Rattle.bed.specs.Words.{natural, first_as, next, making, complete}
 use Rattle.bed.specs.declared.fault.LineFault.{LineFault}
-use Rattle.bed.specs.declared.fault.LineFault.TheVariants.{UnknownDrive, UnknownProfile}
+use Rattle.bed.specs.declared.fault.LineFault.TheVariants.{UnknownDrive, UnknownProfile, MissingWord}
 use Rattle.bed.specs.declared.kind.BaseProfile.{BaseProfile}
 use Rattle.bed.specs.declared.kind.BaseProfile.TheVariants.{Creep, Ramp}
 use Rattle.bed.specs.declared.kind.BedKind.{BedKind}
 use Rattle.bed.specs.declared.kind.DriveKind.{DriveKind}
 use Rattle.bed.specs.declared.kind.DriveKind.TheVariants.{Pulse, Phase}
 use Rattle.bed.specs.declared.kind.Part.{Part}
-use Rattle.bed.specs.declared.kind.Part.TheVariants as part
+use Rattle.bed.specs.declared.kind.Part.TheVariants.{Base, Smoothing}
 use Rattle.bed.specs.declared.kind.ProfileKind.{ProfileKind}
-use Rattle.bed.specs.declared.kind.ProfileWord.{ProfileWord}
-use Rattle.bed.specs.declared.kind.ProfileWord.TheVariants.{Base, Smoothing}
 use Rattle.bed.specs.declared.kind.Smoothings.{Smoothings}
 use Rattle.bed.specs.declared.kind.Smoothings.TheVariants.{Unsmoothed, Once, Twice}
 
@@ -27,49 +25,32 @@ drive_word w = cond (bytes_eq w (codes "pulse")) (Ok Pulse) (cond (bytes_eq w (c
 abbrev pub base_word : List ℕ → Result BaseProfile LineFault
 base_word w = cond (bytes_eq w (codes "creep")) (Ok Creep) (cond (bytes_eq w (codes "ramp")) (Ok Ramp) (Err UnknownProfile))
 
--- a word where a profile may begin
-abbrev pub profile_word : List ℕ → Result ProfileWord LineFault
-profile_word w =
-    cond (bytes_eq w (codes "creep")) (Ok (Base Creep))
-    (cond (bytes_eq w (codes "ramp")) (Ok (Base Ramp))
-    (cond (bytes_eq w (codes "smooth")) (Ok Smoothing)
-    (Err UnknownProfile)))
+-- what the words of a profile begin with: `smooth` and a length, or a profile that stands on no other
+abbrev pub part_of : List (List ℕ) → Result Part LineFault
+part_of [] = Err MissingWord
+part_of (w ∷ ws) = cond (bytes_eq w (codes "smooth")) (making Smoothing (first_as natural ws)) (making Base (base_word w))
 
--- the profile after two `smooth` and their lengths: there is no third
-abbrev pub smooth_twice_with : ℕ → ℕ → ProfileWord → List (List ℕ) → Result ProfileKind LineFault
-smooth_twice_with outer inner (Base base) ws = complete (kind_of (Twice outer inner) base) ws
-smooth_twice_with outer inner Smoothing ws = Err UnknownProfile
+-- the words after that
+abbrev pub after_part : Part → List (List ℕ) → List (List ℕ)
+after_part (Base base) ws = drop 1 ws
+after_part (Smoothing length) ws = drop 1 (drop 1 ws)
 
-abbrev pub smooth_twice_of : ℕ → ℕ → List (List ℕ) → Result ProfileKind LineFault
-smooth_twice_of outer inner ws = next profile_word ws (smooth_twice_with outer inner)
+-- what the words of a profile begin with, and then what is made of it and the words after it
+abbrev pub next_part : List (List ℕ) → (Part → List (List ℕ) → Result ProfileKind LineFault) → Result ProfileKind LineFault
+next_part ws go = elim (part_of ws) [ Ok part ↦ go part (after_part part ws) | Err e ↦ Err e ]
 
--- the profile after one `smooth` and its length
-abbrev pub smooth_with : ℕ → ProfileWord → List (List ℕ) → Result ProfileKind LineFault
+-- the profile after one `smooth` and its length; after two there is no third
+abbrev pub smooth_with : ℕ → Part → List (List ℕ) → Result ProfileKind LineFault
 smooth_with outer (Base base) ws = complete (kind_of (Once outer) base) ws
-smooth_with outer Smoothing ws = next natural ws (smooth_twice_of outer)
-
-abbrev pub smooth_of : ℕ → List (List ℕ) → Result ProfileKind LineFault
-smooth_of outer ws = next profile_word ws (smooth_with outer)
+smooth_with outer (Smoothing inner) ws = next base_word ws (λ base. complete (kind_of (Twice outer inner) base))
 
 -- the profile that the words say
-abbrev pub profile_with : ProfileWord → List (List ℕ) → Result ProfileKind LineFault
+abbrev pub profile_with : Part → List (List ℕ) → Result ProfileKind LineFault
 profile_with (Base base) ws = complete (kind_of Unsmoothed base) ws
-profile_with Smoothing ws = next natural ws smooth_of
+profile_with (Smoothing outer) ws = next_part ws (smooth_with outer)
 
 abbrev pub profile_of : List (List ℕ) → Result ProfileKind LineFault
-profile_of ws = next profile_word ws profile_with
-
--- what the words of a profile begin with, and the words after it
-abbrev pub part_with : ProfileWord → List (List ℕ) → Result Part LineFault
-part_with (Base base) ws = Ok (part.Base base)
-part_with Smoothing ws = making part.Smoothing (first_as natural ws)
-
-abbrev pub part_of : List (List ℕ) → Result Part LineFault
-part_of ws = next profile_word ws part_with
-
-abbrev pub after_part : Part → List (List ℕ) → List (List ℕ)
-after_part (part.Base base) ws = drop 1 ws
-after_part (part.Smoothing length) ws = drop 1 (drop 1 ws)
+profile_of ws = next_part ws profile_with
 
 abbrev pub bed_with : DriveKind → ProfileKind → BedKind
 bed_with drive profile = record { drive = drive; profile = profile }

@@ -1,6 +1,6 @@
 // The kinds of bed that a script can name, by their words.
 ghost use Rattle.std.specs.Prelude.{◌≡◌, IfOk};
-ghost use Rattle.bed.specs.Beds.{drive_word, base_word, profile_word, bed_of, profile_of, part_of, after_part};
+ghost use Rattle.bed.specs.Beds.{drive_word, base_word, bed_of, profile_of, part_of, after_part};
 ghost use Rattle.text.specs.Texts.{words_left};
 
 use crate::fault::LineFault;
@@ -44,13 +44,6 @@ pub struct BedKind {
     pub profile: ProfileKind,
 }
 
-// A word where a profile may begin.
-#[derive(Clone, Copy, PartialEq, Eq, Debug)]
-pub enum ProfileWord {
-    Base(BaseProfile),
-    Smoothing,
-}
-
 impl FromWord for DriveKind {
     ghost read = { drive_word };
 
@@ -75,17 +68,6 @@ impl FromWord for BaseProfile {
     }
 }
 
-impl FromWord for ProfileWord {
-    ghost read = { profile_word };
-
-    fn from_word(word: &[u8]) -> Result<ProfileWord, LineFault> {
-        match word {
-            b"smooth" => Ok(ProfileWord::Smoothing),
-            _ => BaseProfile::from_word(word).map(ProfileWord::Base),
-        }
-    }
-}
-
 // What the words of a profile begin with: the one that stands on no other, or the length of a smoothing.
 enum Part {
     Base(BaseProfile),
@@ -96,9 +78,10 @@ fn next_part(words: &mut Words) -> Result<Part, LineFault>
     ensures part { result ≡ part_of (words_left words.old) }
     ensures left { IfOk result (λ part. words_left words.new ≡ after_part part (words_left words.old)) }
 {
-    match read_next(words)? {
-        ProfileWord::Base(base) => Ok(Part::Base(base)),
-        ProfileWord::Smoothing => Ok(Part::Smoothing(read_next(words)?)),
+    match words.next() {
+        None => Err(LineFault::MissingWord),
+        Some(b"smooth") => Ok(Part::Smoothing(read_next(words)?)),
+        Some(word) => Ok(Part::Base(BaseProfile::from_word(word)?)),
     }
 }
 

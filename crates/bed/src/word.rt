@@ -59,10 +59,7 @@ pub fn read_next<T: FromWord>(words: &mut Words) -> Result<T, LineFault>
     ensures word { result ≡ first_as T.read (words_left words.old) }
     ensures left { words_left words.new ≡ drop 1 (words_left words.old) }
 {
-    match words.next() {
-        Some(word) => T::from_word(word),
-        None => Err(LineFault::MissingWord),
-    }
+    T::from_word(words.next().ok_or(LineFault::MissingWord)?)
 }
 
 // What was read, if no word is left.
