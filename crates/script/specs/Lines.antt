@@ -1,7 +1,8 @@
 -- What a line of a cut script says, by its words. Words are taken from left to right, and the first fault counts:
 -- a word that is missing, one that does not fit its place, and at last one too many.
-use Rattle.std.specs.Prelude.{ℕ, zero, suc, cond, List, [], ◌∷◌, ◌++◌, Ok, Err, codes, Result}
+use Rattle.std.specs.Prelude.{ℕ, zero, suc, cond, List, [], ◌∷◌, ◌++◌, drop, Ok, Err, codes, Result}
 use Rattle.std.specs.Str.{bytes_eq}
+use Rattle.profile.specs.declared.rates.Rates.{Rates}
 use Rattle.profile.specs.declared.row.Row.{Row}
 use Rattle.text.specs.Texts.{uncommented, words_of}
 use Rattle.bed.specs.Beds.{bed_of}
@@ -11,14 +12,21 @@ use Rattle.bed.specs.declared.fault.LineFault.TheVariants.{UnknownCommand, Missi
 use Rattle.script.specs.declared.line.Line.{Line}
 use Rattle.script.specs.declared.line.Line.TheVariants.{Blank, Bed, At, Tripped, Cut, Blend}
 
+-- the acceleration and the deceleration
+abbrev pub rates_of : List (List ℕ) → Result Rates LineFault
+rates_of ws = next natural ws (λ accel ws₁. next natural ws₁ (λ decel ws₂. Ok (record { accel = accel; decel = decel })))
+
+-- these, and then what is made of them and the words after them
+abbrev pub next_rates : List (List ℕ) → (Rates → List (List ℕ) → Result Line LineFault) → Result Line LineFault
+next_rates ws go = elim (rates_of ws) [ Ok rates ↦ go rates (drop 1 (drop 1 ws)) | Err e ↦ Err e ]
+
 abbrev pub cut_of : List (List ℕ) → Result Line LineFault
 cut_of ws =
     next integer ws (λ target ws₁.
     next natural ws₁ (λ start ws₂.
     next natural ws₂ (λ speed ws₃.
-    next natural ws₃ (λ accel ws₄.
-    next natural ws₄ (λ decel.
-    complete (Cut (record { target = target; start = start; speed = speed; rates = record { accel = accel; decel = decel } })))))))
+    next_rates ws₃ (λ rates.
+    complete (Cut (record { target = target; start = start; speed = speed; rates = rates }))))))
 
 abbrev pub row_of : ℕ → ℕ → Row
 row_of steps speed = record { steps = steps; speed = speed }
@@ -45,9 +53,8 @@ abbrev pub blend_of : List (List ℕ) → Result Line LineFault
 blend_of ws =
     next direction_word ws (λ direction ws₁.
     next natural ws₁ (λ start ws₂.
-    next natural ws₂ (λ accel ws₃.
-    next natural ws₃ (λ decel ws₄.
-    making (λ rows. Blend (record { direction = direction; start = start; rates = record { accel = accel; decel = decel }; rows = rows })) (rows_of ws₄)))))
+    next_rates ws₂ (λ rates ws₃.
+    making (λ rows. Blend (record { direction = direction; start = start; rates = rates; rows = rows })) (rows_of ws₃))))
 
 -- a command, with the words after it
 abbrev pub command_of : List ℕ → List (List ℕ) → Result Line LineFault

@@ -1,6 +1,6 @@
 // Reads a line of a cut script: its first word is the command, and the others are what the command takes.
-ghost use Rattle.std.specs.Prelude.{◌≡◌};
-ghost use Rattle.script.specs.Lines.{rows_of, cut_of, blend_of, command_of, line_of};
+ghost use Rattle.std.specs.Prelude.{◌≡◌, drop, IfOk};
+ghost use Rattle.script.specs.Lines.{rows_of, rates_of, cut_of, blend_of, command_of, line_of};
 ghost use Rattle.text.specs.Texts.{words_left};
 
 use crate::command::Command;
@@ -34,19 +34,28 @@ fn rows_of(mut words: Words) -> Result<RowList, LineFault>
     Ok(rows)
 }
 
+// The acceleration and the deceleration, which two words say.
+fn rates(words: &mut Words) -> Result<Rates, LineFault>
+    ensures rates { result ≡ rates_of (words_left words.old) }
+    ensures left { IfOk result (λ _. words_left words.new ≡ drop 1 (drop 1 (words_left words.old))) }
+{
+    let accel = read_next(words)?;
+    let decel = read_next(words)?;
+    Ok(Rates { accel, decel })
+}
+
 fn cut(mut words: Words) -> Result<Line, LineFault>
     ensures { result ≡ cut_of (words_left words.entry) }
 {
     let target = read_next(&mut words)?;
     let start = read_next(&mut words)?;
     let speed = read_next(&mut words)?;
-    let accel = read_next(&mut words)?;
-    let decel = read_next(&mut words)?;
+    let rates = rates(&mut words)?;
     let cut = Cut {
         target,
         start,
         speed,
-        rates: Rates { accel, decel },
+        rates,
     };
     complete(words, Line::Cut(cut))
 }
@@ -56,13 +65,12 @@ fn blend(mut words: Words) -> Result<Line, LineFault>
 {
     let direction = read_next(&mut words)?;
     let start = read_next(&mut words)?;
-    let accel = read_next(&mut words)?;
-    let decel = read_next(&mut words)?;
+    let rates = rates(&mut words)?;
     let rows = rows_of(words)?;
     Ok(Line::Blend(BlendLine {
         direction,
         start,
-        rates: Rates { accel, decel },
+        rates,
         rows,
     }))
 }
