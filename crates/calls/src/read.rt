@@ -26,8 +26,8 @@ fn ticks(mut words: Words) -> Result<u32, LineFault>
     }
 }
 
-// The words of a block, as many as there are. A `for` and no `try_collect`: what it collects would be proved too, but by a hundred lines
-// on how, where the loop needs an invariant of three.
+// The words of a block, as many as there are. A `for` and no `try_collect`: that takes a closure with its result's type written out, to make
+// a `ReadFault` of the word's fault, and a `map_err` for want of memory, which is no plainer than these lines with their two `?`.
 fn block(heap: Global, words: Words) -> Result<Vec<i16>, ReadFault>
     ensures { Read vec_items (block_of (words_left words.entry)) result }
 {

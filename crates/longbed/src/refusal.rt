@@ -7,6 +7,8 @@ use cut::fault::CutFault;
 use profile::fault::PlanFault;
 use thiserror::Error;
 
+// One list of the reasons of this program. Call scripts have four of them too, `NoBed` to `NoPosition`, for their own order of lines,
+// and the text of `TooLate` differs there by a word.
 #[derive(Clone, Copy, PartialEq, Eq, Debug, Error)]
 pub enum Refusal {
     // The line cannot be read.
