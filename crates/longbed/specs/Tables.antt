@@ -41,6 +41,11 @@ pub record Moving (verdict : Option CutFault) (plan : PlanMeans) (target : ℤ) 
   pub made : verdict ≡ None → (report : Report) × (r ≡ Ok (Some report)) × Carried plan target m.drive m.profile report m'.drive m'.profile
   pub begun : m'.begun ≡ true
 
+-- what a line is answered, by what its own call answers
+abbrev pub answered : {A : Type 0} → (A → Option Report) → Result A Refusal → Result (Option Report) Refusal
+answered told (Ok a) = Ok (told a)
+answered told (Err why) = Err why
+
 -- what a line makes of a table that means m, over a drive that goes at most g steps at once
 abbrev pub Taken : ℕ → TableMeans → Line → Result (Option Report) Refusal → TableMeans → Type 0
 Taken g m line.Blank r m' = (r ≡ Ok None) × (m' ≡ m)

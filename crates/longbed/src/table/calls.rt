@@ -1,7 +1,7 @@
 // What a table makes of the lines of a script.
-ghost use Rattle.std.specs.Prelude.{◌≡◌, true, false};
+ghost use Rattle.std.specs.Prelude.{◌≡◌, true, false, Some, None};
 ghost use Rattle.longbed.specs.TableMeaning.{table_means};
-ghost use Rattle.longbed.specs.Tables.{Taken};
+ghost use Rattle.longbed.specs.Tables.{Taken, answered};
 ghost use Rattle.script.specs.declared.line.Line.TheVariants as line;
 
 use super::Table;
@@ -33,41 +33,36 @@ impl<D: Motor, P: Profile> Table<D, P> {
     }
 
     // The drive's first place.
-    fn stand_at(&mut self, place: i32) -> Result<Option<Report>, Refusal>
-        ensures { Taken D.Drive.G (table_means D.Drive.means P.Profile.means self.old) (line.At place) result (table_means D.Drive.means P.Profile.means self.new) }
+    fn stand_at(&mut self, place: i32) -> Result<(), Refusal>
+        ensures { Taken D.Drive.G (table_means D.Drive.means P.Profile.means self.old) (line.At place) (answered (λ _. None) result) (table_means D.Drive.means P.Profile.means self.new) }
     {
         if self.begun {
             return Err(Refusal::TooLate);
         }
-        self.drive.set(place).or(Err(Refusal::NoPosition))?;
-        Ok(None)
+        self.drive.set(place).or(Err(Refusal::NoPosition))
     }
 
     // The drive starts tripped.
-    fn start_tripped(&mut self) -> Result<Option<Report>, Refusal>
-        ensures { Taken D.Drive.G (table_means D.Drive.means P.Profile.means self.old) line.Tripped result (table_means D.Drive.means P.Profile.means self.new) }
+    fn start_tripped(&mut self) -> Result<(), Refusal>
+        ensures { Taken D.Drive.G (table_means D.Drive.means P.Profile.means self.old) line.Tripped (answered (λ _. None) result) (table_means D.Drive.means P.Profile.means self.new) }
     {
         if self.begun {
             return Err(Refusal::TooLate);
         }
         self.drive.trip();
-        Ok(None)
+        Ok(())
     }
 
-    fn cut<W: Watch>(&mut self, asked: Cut, watch: &mut W) -> Result<Option<Report>, Refusal>
-        ensures { Taken D.Drive.G (table_means D.Drive.means P.Profile.means self.old) (line.Cut asked) result (table_means D.Drive.means P.Profile.means self.new) }
+    fn cut<W: Watch>(&mut self, asked: Cut, watch: &mut W) -> Result<Report, Refusal>
+        ensures { Taken D.Drive.G (table_means D.Drive.means P.Profile.means self.old) (line.Cut asked) (answered Some result) (table_means D.Drive.means P.Profile.means self.new) }
     {
         self.begun = true;
         let report = make_cut(&mut self.drive, &mut self.profile, asked, watch)?;
-        Ok(Some(report))
+        Ok(report)
     }
 
-    fn blend<W: Watch>(
-        &mut self,
-        asked: BlendLine,
-        watch: &mut W,
-    ) -> Result<Option<Report>, Refusal>
-        ensures { Taken D.Drive.G (table_means D.Drive.means P.Profile.means self.old) (line.Blend asked) result (table_means D.Drive.means P.Profile.means self.new) }
+    fn blend<W: Watch>(&mut self, asked: BlendLine, watch: &mut W) -> Result<Report, Refusal>
+        ensures { Taken D.Drive.G (table_means D.Drive.means P.Profile.means self.old) (line.Blend asked) (answered Some result) (table_means D.Drive.means P.Profile.means self.new) }
     {
         self.begun = true;
         let plan = Plan::new(asked.start, asked.rates, asked.listed())?;
@@ -80,7 +75,7 @@ impl<D: Motor, P: Profile> Table<D, P> {
             },
             watch,
         )?;
-        Ok(Some(report))
+        Ok(report)
     }
 
     // Takes one line; a cut is answered by its report.
@@ -90,10 +85,10 @@ impl<D: Motor, P: Profile> Table<D, P> {
         match line {
             Line::Blank => Ok(None),
             Line::Bed(_) => Err(Refusal::SecondBed),
-            Line::At(place) => self.stand_at(place),
-            Line::Tripped => self.start_tripped(),
-            Line::Cut(cut) => self.cut(cut, watch),
-            Line::Blend(blend) => self.blend(blend, watch),
+            Line::At(place) => self.stand_at(place).map(|()| None),
+            Line::Tripped => self.start_tripped().map(|()| None),
+            Line::Cut(cut) => self.cut(cut, watch).map(Some),
+            Line::Blend(blend) => self.blend(blend, watch).map(Some),
         }
     }
 }
