@@ -9,6 +9,8 @@ use drive::traits::Drive;
 pub fn prepare<D: Drive>(drive: &mut D, start: Start)
     ensures { D.Drive.means drive.new ≡ prepared (D.Drive.means drive.old) start }
 {
+    // An `Err` cannot come: a start's place is 0, or one that the order of lines took, and that refuses a place that is no position.
+    // No ghost field of `Start` for an `unwrap`: the definitions of what a line makes of a stage would have to carry its proof.
     let _ = drive.set(start.place);
     if start.tripped {
         drive.trip();

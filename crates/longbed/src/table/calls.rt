@@ -57,8 +57,7 @@ impl<D: Motor, P: Profile> Table<D, P> {
         ensures { Taken D.Drive.G (table_means D.Drive.means P.Profile.means self.old) (line.Cut asked) (answered Some result) (table_means D.Drive.means P.Profile.means self.new) }
     {
         self.begun = true;
-        let report = make_cut(&mut self.drive, &mut self.profile, asked, watch)?;
-        Ok(report)
+        Ok(make_cut(&mut self.drive, &mut self.profile, asked, watch)?)
     }
 
     fn blend<W: Watch>(&mut self, asked: BlendLine, watch: &mut W) -> Result<Report, Refusal>
@@ -66,16 +65,11 @@ impl<D: Motor, P: Profile> Table<D, P> {
     {
         self.begun = true;
         let plan = Plan::new(asked.start, asked.rates, asked.listed())?;
-        let report = make_blend(
-            &mut self.drive,
-            &mut self.profile,
-            Blend {
-                plan,
-                direction: asked.direction,
-            },
-            watch,
-        )?;
-        Ok(report)
+        let blend = Blend {
+            plan,
+            direction: asked.direction,
+        };
+        Ok(make_blend(&mut self.drive, &mut self.profile, blend, watch)?)
     }
 
     // Takes one line; a cut is answered by its report.
