@@ -4,8 +4,7 @@ use axis::flags::Flags;
 use beds::motor::Motor;
 use drive::traits::Drive;
 use profile::traits::Profile;
-use std::fmt;
-use std::io;
+use std::{fmt, io};
 use text::text::{Words, uncommented};
 
 // The words of a line as they were written, with one space between them. No `Display`: the words are bytes, and that writes text.
