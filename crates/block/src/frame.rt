@@ -12,7 +12,9 @@ const RESERVED: u16 = 0xc1e0;
 
 // The bits of word 1 that have one.
 const DWELL: u16 = 0x0001;
+
 const COUNTERCLOCKWISE: u16 = 0x0002;
+
 const CLEAR_TRIP: u16 = 0x0400;
 
 #[derive(Clone, Copy, PartialEq, Eq, Debug)]

@@ -18,7 +18,7 @@ pub struct BlendLine {
 }
 
 impl BlendLine {
-    // Its rows.
+    // Its rows, for whoever takes no `RowList`.
     pub fn listed(&self) -> &[Row]
         ensures { result.now ≡ self.now.rows }
     {
