@@ -130,7 +130,7 @@ segment_of n = record { distance = n.place; speed = unsigned_abs n.speed }
 abbrev pub run_of : Block → DwellRun
 run_of b = record { rates = rates_of b; dwell = unsigned_abs b.dwell }
 
--- Are Input_Error, E-stop and trip all off?
+-- Is Input_Error, the E-stop or a trip on?
 unfoldable pub inhibited : AxisMeans → Bool
 inhibited m = m.memory.flags.input || (m.memory.levels.estop || m.drive.tripped)
 

@@ -11,7 +11,7 @@ use profile::rates::Rates;
 use profile::row::Row;
 use profile::traits::Profile;
 
-// The rows of pairs of steps and speed; none if they are too many.
+// The rows of pairs of steps and speed; none if they are too many. A loop of its own beside `RowList::of`: what they share is `push`.
 fn rows_of(pairs: &[[u32; 2]]) -> Option<RowList>
     ensures { result ≡ (if nat_le (length pairs.now) 16 then Some (map row_of pairs.now) else None) }
 {

@@ -1,6 +1,6 @@
 // What C and Rust can call of the benchmark. Rows stand as steps, speed, steps, speed, .. . A call writes the number of ticks and then the sum
 // over the advances to the front of `out`; where there is no such plan, or no room for both, it leaves `out` alone. C passes numbers and
-// slices only, so each call takes the rates apart and promises the same of its own `out`.
+// slices only and names each call, so each takes the rates apart and promises the same of its own `out`.
 #![tactic(auto)]
 
 ghost use Rattle.std.specs.Prelude.{◌≡◌, ◌<◌, length, Some};

@@ -8,8 +8,8 @@ use crate::fault::DriveFault;
 use crate::token::StepToken;
 use crate::traits::Drive;
 
-// Sends a drive the whole steps of `gone` millisteps that were not sent before, and answers them. The token is the struct of the three
-// numbers: another one around them would only be taken apart to make it.
+// Sends a drive the whole steps of `gone` millisteps that were not sent before, and answers them. The token is what is made of the three
+// numbers: a struct of them would only be taken apart to make it, here and in `StepToken::count`.
 pub fn send<D: Drive>(
     drive: &mut D,
     gone: u64,

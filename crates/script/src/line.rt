@@ -18,7 +18,7 @@ pub struct BlendLine {
 }
 
 impl BlendLine {
-    // Its rows, for whoever takes no `RowList`.
+    // Its rows, a public call that stays, with its edit, for whoever takes no `RowList`.
     pub fn listed(&self) -> &[Row]
         ensures { result.now ≡ self.now.rows }
     {

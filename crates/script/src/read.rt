@@ -88,7 +88,7 @@ fn command(name: &[u8], words: Words) -> Result<Line, LineFault>
     }
 }
 
-// What a line says, or why it is refused.
+// What a line says, or why it is refused. Call scripts have this frame too, around a command and a line of their own.
 pub fn read_line(text: &[u8]) -> Result<Line, LineFault>
     ensures { result ≡ line_of text.now }
 {

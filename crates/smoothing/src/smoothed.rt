@@ -7,7 +7,7 @@ use profile::traits::Profile;
 
 mod calls;
 
-// The newest value of the window is what `below` has gone.
+// The newest value of the window is what `below` has gone. The bound is for this invariant, which cites what a profile means.
 #[derive(Drop)]
 pub struct Smoothed<P: Profile> {
     below: P,

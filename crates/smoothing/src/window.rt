@@ -14,7 +14,8 @@ pub(crate) struct Window {
     // The sum of the values and their mean, kept so that a new value costs one division and nothing goes over the ring.
     total: u64,
     mean: u64,
-    // Where the profile stood when the newest value was kept. A value rises by at most the top over the one before.
+    // Where the profile stood when the newest value was kept. A value rises by at most the top over the one before. No call reads it: the
+    // invariants rest on it, and a ghost field holds a fact and no number.
     standing: Standing,
     ghost summed: { total ≡ sum kept },
     ghost averaged: { mean ≡ mean_of kept },

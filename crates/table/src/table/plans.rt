@@ -15,7 +15,7 @@ use profile::rates::Rates;
 use profile::row::Row;
 
 impl Table {
-    // The rows of a blend.
+    // The rows of a blend. A loop of its own beside `RowList::of`: what they share is `push`.
     fn blend_rows(&self) -> RowList
         ensures { result ≡ map row_of (table_means self.now).rows }
     {
