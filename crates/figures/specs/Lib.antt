@@ -1,2 +1,3 @@
 pub mod Figures
+pub mod Motions
 pub mod Table

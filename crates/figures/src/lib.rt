@@ -1,6 +1,6 @@
 // The worked figures of the bed: one proof about the rules, and the same figures run on the code.
 #![tactic(auto)]
 
-pub mod figures;
 #[cfg(test)]
 mod tests;
+pub mod worked;

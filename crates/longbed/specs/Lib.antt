@@ -1,3 +1,3 @@
-pub mod Tables
-pub mod TableMeaning
-pub mod Tallies
+pub mod Orders
+pub mod Starts
+pub mod Takings

@@ -1,16 +1,18 @@
--- The commands of a cut script, by their names.
+-- The commands of a call script, by their names.
 use Rattle.std.specs.Prelude.{ℕ, cond, List, Ok, Err, codes, Result}
 use Rattle.std.specs.Str.{bytes_eq}
 use Rattle.bed.specs.declared.fault.LineFault.{LineFault}
 use Rattle.bed.specs.declared.fault.LineFault.TheVariants.{UnknownCommand}
 use Rattle.script.specs.declared.command.Command.{Command}
-use Rattle.script.specs.declared.command.Command.TheVariants.{Bed, At, Tripped, Cut, Blend}
+use Rattle.script.specs.declared.command.Command.TheVariants.{Bed, At, Tripped, Setup, Block, Event, Tick}
 
 abbrev pub command_word : List ℕ → Result Command LineFault
 command_word w =
     cond (bytes_eq w (codes "bed")) (Ok Bed)
     (cond (bytes_eq w (codes "at")) (Ok At)
     (cond (bytes_eq w (codes "tripped")) (Ok Tripped)
-    (cond (bytes_eq w (codes "cut")) (Ok Cut)
-    (cond (bytes_eq w (codes "blend")) (Ok Blend)
-    (Err UnknownCommand)))))
+    (cond (bytes_eq w (codes "setup")) (Ok Setup)
+    (cond (bytes_eq w (codes "block")) (Ok Block)
+    (cond (bytes_eq w (codes "event")) (Ok Event)
+    (cond (bytes_eq w (codes "tick")) (Ok Tick)
+    (Err UnknownCommand)))))))

@@ -1,4 +1,4 @@
-// The commands of a cut script, by their names.
+// The commands of a call script, by their names.
 ghost use Rattle.script.specs.Commands.{command_word};
 
 use bed::fault::LineFault;
@@ -9,8 +9,10 @@ pub enum Command {
     Bed,
     At,
     Tripped,
-    Cut,
-    Blend,
+    Setup,
+    Block,
+    Event,
+    Tick,
 }
 
 impl FromWord for Command {
@@ -21,8 +23,10 @@ impl FromWord for Command {
             b"bed" => Ok(Command::Bed),
             b"at" => Ok(Command::At),
             b"tripped" => Ok(Command::Tripped),
-            b"cut" => Ok(Command::Cut),
-            b"blend" => Ok(Command::Blend),
+            b"setup" => Ok(Command::Setup),
+            b"block" => Ok(Command::Block),
+            b"event" => Ok(Command::Event),
+            b"tick" => Ok(Command::Tick),
             _ => Err(LineFault::UnknownCommand),
         }
     }

@@ -1,7 +1,8 @@
-// Reads a line of a cut script from its bytes.
+// Reads a line of a call script from its bytes.
 #![tactic(auto)]
 
 pub mod command;
+pub mod fault;
 pub mod line;
 pub mod read;
 #[cfg(test)]

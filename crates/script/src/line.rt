@@ -1,38 +1,17 @@
-// What a line of a cut script says.
-ghost use Rattle.std.specs.Prelude.{◌≡◌};
-
+// What a line of a call script says.
 use bed::kind::BedKind;
-use cut::order::Cut;
-use drive::direction::Direction;
-use profile::list::RowList;
-use profile::rates::Rates;
-use profile::row::Row;
 
-// A move of up to sixteen rows in one direction, in the order of its words.
-#[derive(Clone, Copy, PartialEq, Eq, Debug)]
-pub struct BlendLine {
-    pub direction: Direction,
-    pub start: u32,
-    pub rates: Rates,
-    pub rows: RowList,
-}
-
-impl BlendLine {
-    // Its rows, a public call that stays, with its edit, for whoever takes no `RowList`.
-    pub fn listed(&self) -> &[Row]
-        ensures { result.now ≡ self.now.rows }
-    {
-        self.rows.as_slice()
-    }
-}
-
-// What a line says. A blank line has no words.
-#[derive(Clone, Copy, PartialEq, Eq, Debug)]
+// What a line says: nothing, what the bed is and how it stands at first, or a call of the axis.
+// A list of its own beside the one of cut scripts, which begins with the same four: what a bed's words say is shared in `bed`,
+// and an enum around the shared lines would only be taken apart again in both programs.
+#[derive(Drop)]
 pub enum Line {
     Blank,
     Bed(BedKind),
     At(i32),
     Tripped,
-    Cut(Cut),
-    Blend(BlendLine),
+    Setup(i32),
+    Block(Vec<i16>),
+    Event(i32),
+    Tick(u32),
 }

@@ -1,100 +1,68 @@
-// Reads a line of a cut script: its first word is the command, and the others are what the command takes.
-ghost use Rattle.std.specs.Prelude.{◌≡◌, drop, IfOk};
-ghost use Rattle.script.specs.Lines.{rows_of, rates_of, cut_of, blend_of, command_of, line_of};
+// Reads a line of a call script: its first word is the command, and the others are what the command takes.
+ghost use Rattle.std.specs.Prelude.{◌≡◌, vec_items};
+ghost use Rattle.script.specs.Lines.{ticks_of, block_of, command_of, line_of};
+ghost use Rattle.script.specs.Readings.{Read, line_means};
 ghost use Rattle.text.specs.Texts.{words_left};
 
 use crate::command::Command;
-use crate::line::{BlendLine, Line};
+use crate::fault::ReadFault;
+use crate::line::Line;
 use bed::fault::LineFault;
 use bed::kind::bed_kind;
-use bed::word::{FromWord, complete, only, read_next};
-use cut::order::Cut;
-use profile::list::RowList;
-use profile::rates::Rates;
-use profile::row::Row;
+use bed::word::{FromWord, complete, only};
+use std::alloc::Global;
 use text::text::{Words, uncommented};
 
-// The rows that words say: from one to sixteen, of two words each, the steps and the speed.
-fn rows_of(mut words: Words) -> Result<RowList, LineFault>
-    ensures { result ≡ rows_of (words_left words.entry) }
+// How many ticks: one where no word says it.
+fn ticks(mut words: Words) -> Result<u32, LineFault>
+    ensures { result ≡ ticks_of (words_left words.entry) }
 {
-    let mut rows = RowList::new();
-    // A `while let` and no `for`: a turn takes two words.
-    while let Some(word) = words.next() {
-        if rows.is_full() {
-            return Err(LineFault::ExtraWord);
+    match words.next() {
+        Some(word) => {
+            let count = u32::from_word(word)?;
+            complete(words, count)
         }
-        let steps = u32::from_word(word)?;
-        let speed = read_next(&mut words)?;
-        rows.push(Row { steps, speed }).unwrap();
+        None => Ok(1),
     }
-    if rows.is_empty() {
-        return Err(LineFault::MissingWord);
+}
+
+// The words of a block, as many as there are. A `for` and no `try_collect`: that takes a closure with its result's type written out, to make
+// a `ReadFault` of the word's fault, and a `map_err` for want of memory, which is no plainer than these lines with their two `?`.
+fn block(heap: Global, words: Words) -> Result<Vec<i16>, ReadFault>
+    ensures { Read vec_items (block_of (words_left words.entry)) result }
+{
+    let mut block = Vec::new(heap);
+    for word in words {
+        block.push(i16::from_word(word)?)?;
     }
-    Ok(rows)
-}
-
-// The acceleration and the deceleration, which two words say.
-fn rates(words: &mut Words) -> Result<Rates, LineFault>
-    ensures rates { result ≡ rates_of (words_left words.old) }
-    ensures left { IfOk result (λ _. words_left words.new ≡ drop 1 (drop 1 (words_left words.old))) }
-{
-    let accel = read_next(words)?;
-    let decel = read_next(words)?;
-    Ok(Rates { accel, decel })
-}
-
-fn cut(mut words: Words) -> Result<Line, LineFault>
-    ensures { result ≡ cut_of (words_left words.entry) }
-{
-    let target = read_next(&mut words)?;
-    let start = read_next(&mut words)?;
-    let speed = read_next(&mut words)?;
-    let rates = rates(&mut words)?;
-    let cut = Cut {
-        target,
-        start,
-        speed,
-        rates,
-    };
-    complete(words, Line::Cut(cut))
-}
-
-fn blend(mut words: Words) -> Result<Line, LineFault>
-    ensures { result ≡ blend_of (words_left words.entry) }
-{
-    let direction = read_next(&mut words)?;
-    let start = read_next(&mut words)?;
-    let rates = rates(&mut words)?;
-    let rows = rows_of(words)?;
-    Ok(Line::Blend(BlendLine {
-        direction,
-        start,
-        rates,
-        rows,
-    }))
+    Ok(block)
 }
 
 // What a command says with the words after it.
-fn command(name: &[u8], words: Words) -> Result<Line, LineFault>
-    ensures { result ≡ command_of name.now (words_left words.entry) }
+fn command(heap: Global, name: &[u8], words: Words) -> Result<Line, ReadFault>
+    ensures { Read line_means (command_of name.now (words_left words.entry)) result }
 {
     match Command::from_word(name)? {
         Command::Bed => Ok(Line::Bed(bed_kind(words)?)),
         Command::At => Ok(Line::At(only(words)?)),
-        Command::Tripped => complete(words, Line::Tripped),
-        Command::Cut => cut(words),
-        Command::Blend => blend(words),
+        Command::Tripped => {
+            complete(words, ())?;
+            Ok(Line::Tripped)
+        }
+        Command::Setup => Ok(Line::Setup(only(words)?)),
+        Command::Block => Ok(Line::Block(block(heap, words)?)),
+        Command::Event => Ok(Line::Event(only(words)?)),
+        Command::Tick => Ok(Line::Tick(ticks(words)?)),
     }
 }
 
-// What a line says, or why it is refused. Call scripts have this frame too, around a command and a line of their own.
-pub fn read_line(text: &[u8]) -> Result<Line, LineFault>
-    ensures { result ≡ line_of text.now }
+// What a line says, or why it is not read. Cut scripts have this frame too, around a command and a line of their own.
+pub fn read_line(heap: Global, text: &[u8]) -> Result<Line, ReadFault>
+    ensures { Read line_means (line_of text.now) result }
 {
     let mut words = Words::of(uncommented(text));
     match words.next() {
-        Some(name) => command(name, words),
+        Some(name) => command(heap, name, words),
         None => Ok(Line::Blank),
     }
 }

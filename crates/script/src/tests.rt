@@ -1,176 +1,94 @@
-use crate::line::{BlendLine, Line};
+use crate::fault::ReadFault;
+use crate::line::Line;
 use crate::read::read_line;
 use bed::fault::LineFault;
 use bed::kind::{BaseProfile, BedKind, DriveKind, ProfileKind, Smoothings};
-use cut::order::Cut;
-use drive::direction::Direction;
-use profile::list::RowList;
-use profile::rates::Rates;
-use profile::row::Row;
+use std::alloc::Global;
+use std::test::Fail;
 
-fn bed(drive: DriveKind, base: BaseProfile, smoothings: Smoothings) -> Line {
-    Line::Bed(BedKind {
+// The fault of a line that is not read.
+fn fault(heap: Global, text: &[u8]) -> Option<ReadFault> {
+    read_line(heap, text).err()
+}
+
+fn is_bed(heap: Global, text: &[u8], expected: BedKind) -> bool {
+    match read_line(heap, text) {
+        Ok(Line::Bed(bed)) => bed == expected,
+        _ => false,
+    }
+}
+
+fn bed(drive: DriveKind, base: BaseProfile, smoothings: Smoothings) -> BedKind {
+    BedKind {
         drive,
         profile: ProfileKind { base, smoothings },
-    })
+    }
 }
 
 #[test]
-fn good_lines(rt: HostRuntime) {
-    assert_eq!(rt; read_line(b""), Ok(Line::Blank));
-    assert_eq!(rt; read_line(b" \t\r# cut 1"), Ok(Line::Blank));
-    assert_eq!(rt;
-        read_line(b"bed phase creep"),
-        Ok(bed(DriveKind::Phase, BaseProfile::Creep, Smoothings::Unsmoothed))
+fn beds(rt: HostRuntime) {
+    let heap = rt.alloc();
+    let ramp = bed(DriveKind::Pulse, BaseProfile::Ramp, Smoothings::Unsmoothed);
+    assert!(rt; is_bed(heap, b"\tbed\tpulse  ramp# the first\r", ramp));
+    let smooth = bed(DriveKind::Phase, BaseProfile::Creep, Smoothings::Once(4));
+    assert!(rt; is_bed(heap, b"bed phase smooth 4 creep", smooth));
+    let twice = bed(
+        DriveKind::Phase,
+        BaseProfile::Creep,
+        Smoothings::Twice(8, 3),
     );
-    assert_eq!(rt;
-        read_line(b"\tbed\tpulse  creep# the first\r"),
-        Ok(bed(DriveKind::Pulse, BaseProfile::Creep, Smoothings::Unsmoothed))
+    assert!(rt; is_bed(heap, b"bed phase smooth 8 smooth 3 creep", twice));
+}
+
+#[test]
+fn calls(rt: HostRuntime) -> Result<(), Fail> {
+    let heap = rt.alloc();
+    assert!(rt; matches!(read_line(heap, b" \t\r# tick"), Ok(Line::Blank)));
+    assert!(rt;
+        matches!(
+            read_line(heap, b"at -2147483648"),
+            Ok(Line::At(-2147483648))
+        )
     );
-    assert_eq!(rt; read_line(b"at -2147483648"), Ok(Line::At(-2147483648)));
-    assert_eq!(rt; read_line(b"tripped\r"), Ok(Line::Tripped));
-    let line = Cut {
-        target: -5,
-        start: 0,
-        speed: 4294967295,
-        rates: Rates {
-            accel: 7,
-            decel: 10,
+    assert!(rt; matches!(read_line(heap, b"tripped"), Ok(Line::Tripped)));
+    assert!(rt; matches!(read_line(heap, b"setup 007"), Ok(Line::Setup(7))));
+    assert!(rt; matches!(read_line(heap, b"event -5"), Ok(Line::Event(-5))));
+    assert!(rt; matches!(read_line(heap, b"tick"), Ok(Line::Tick(1))));
+    assert!(rt; matches!(read_line(heap, b"tick 0"), Ok(Line::Tick(0))));
+    match read_line(heap, b"block 0x0200 -5 0xffff") {
+        Ok(Line::Block(words)) => {
+            assert_eq!(rt; words.as_slice(), [512i16, -5, -1].as_slice());
+        }
+        _ => return Err(Fail::new("no block")),
+    }
+    match read_line(heap, b"block") {
+        Ok(Line::Block(words)) => {
+            assert_eq!(rt; words.len(), 0);
+            Ok(())
         },
-    };
-    assert_eq!(rt;
-        read_line(b"cut -5 0 4294967295 007 10"),
-        Ok(Line::Cut(line))
-    );
+        _ => Err(Fail::new("no block")),
+    }
 }
 
 #[test]
 fn faults(rt: HostRuntime) {
-    assert_eq!(rt; read_line(b"Cut"), Err(LineFault::UnknownCommand));
-    assert_eq!(rt;
-        read_line(b"bed pulses creep"),
-        Err(LineFault::UnknownDrive)
-    );
-    assert_eq!(rt;
-        read_line(b"bed pulse cree"),
-        Err(LineFault::UnknownProfile)
-    );
-    assert_eq!(rt;
-        read_line(b"bed pulse # creep"),
-        Err(LineFault::MissingWord)
-    );
-    assert_eq!(rt; read_line(b"at"), Err(LineFault::MissingWord));
-    assert_eq!(rt; read_line(b"at 1 2"), Err(LineFault::ExtraWord));
-    assert_eq!(rt; read_line(b"tripped now"), Err(LineFault::ExtraWord));
-    assert_eq!(rt; read_line(b"cut 1 2 3 x"), Err(LineFault::NotANumber));
-    assert_eq!(rt; read_line(b"cut 1 -2 3 4 5"), Err(LineFault::NotANumber));
-}
-
-#[test]
-fn profiles(rt: HostRuntime) {
-    assert_eq!(rt;
-        read_line(b"bed pulse smooth 4 creep"),
-        Ok(bed(DriveKind::Pulse, BaseProfile::Creep, Smoothings::Once(4)))
-    );
-    assert_eq!(rt;
-        read_line(b"bed phase smooth 4 smooth 8 ramp"),
-        Ok(bed(
-            DriveKind::Phase,
-            BaseProfile::Ramp,
-            Smoothings::Twice(4, 8),
-        ))
-    );
-    assert_eq!(rt;
-        read_line(b"bed pulse smooth 4 smooth 8 smooth 2 ramp"),
-        Err(LineFault::UnknownProfile)
-    );
-    assert_eq!(rt;
-        read_line(b"bed pulse smooth x ramp"),
-        Err(LineFault::NotANumber)
-    );
-    assert_eq!(rt;
-        read_line(b"bed pulse smooth 4"),
-        Err(LineFault::MissingWord)
-    );
-    assert_eq!(rt;
-        read_line(b"bed pulse smooth 0 ramp 5"),
-        Err(LineFault::ExtraWord)
-    );
-}
-
-#[test]
-fn blends(rt: HostRuntime) {
-    let mut rows = RowList::new();
-    assert_eq!(rt;
-        rows.push(Row {
-            steps: 5,
-            speed: 900,
-        }),
-        Ok(())
-    );
-    assert_eq!(rt;
-        rows.push(Row {
-            steps: 7,
-            speed: 800,
-        }),
-        Ok(())
-    );
-    let line = BlendLine {
-        direction: Direction::Ccw,
-        start: 100,
-        rates: Rates {
-            accel: 10,
-            decel: 20,
-        },
-        rows,
-    };
-    assert_eq!(rt; line.listed().len(), 2);
-    assert_eq!(rt;
-        read_line(b"blend ccw 100 10 20 5 900 7 800"),
-        Ok(Line::Blend(line))
-    );
-    let mut all = RowList::new();
-    for _ in 0..16 {
-        assert_eq!(rt; all.push(Row { steps: 1, speed: 2 }), Ok(()));
+    let heap = rt.alloc();
+    for (text, expected) in [
+        (b"Tick".as_slice(), LineFault::UnknownCommand),
+        (b"bed pulses creep".as_slice(), LineFault::UnknownDrive),
+        (b"bed pulse cree".as_slice(), LineFault::UnknownProfile),
+        (
+            b"bed pulse smooth 4 smooth 8 smooth 2 ramp".as_slice(),
+            LineFault::UnknownProfile,
+        ),
+        (b"bed pulse # creep".as_slice(), LineFault::MissingWord),
+        (b"event".as_slice(), LineFault::MissingWord),
+        (b"setup 1 x".as_slice(), LineFault::ExtraWord),
+        (b"tripped now".as_slice(), LineFault::ExtraWord),
+        (b"tick -1 2".as_slice(), LineFault::NotANumber),
+        (b"tick 1 2".as_slice(), LineFault::ExtraWord),
+        (b"block 1 0x 2".as_slice(), LineFault::NotANumber),
+    ] {
+        assert_eq!(rt; fault(heap, text), Some(ReadFault::Line(expected)));
     }
-    let full = BlendLine {
-        direction: Direction::Cw,
-        start: 3,
-        rates: Rates { accel: 4, decel: 5 },
-        rows: all,
-    };
-    assert_eq!(rt;
-        read_line(
-            b"blend cw 3 4 5 1 2 1 2 1 2 1 2 1 2 1 2 1 2 1 2 1 2 1 2 1 2 1 2 1 2 1 2 1 2 1 2",
-        ),
-        Ok(Line::Blend(full))
-    );
-    assert_eq!(rt;
-        read_line(
-            b"blend cw 3 4 5 1 2 1 2 1 2 1 2 1 2 1 2 1 2 1 2 1 2 1 2 1 2 1 2 1 2 1 2 1 2 1 2 x",
-        ),
-        Err(LineFault::ExtraWord)
-    );
-}
-
-#[test]
-fn blend_faults(rt: HostRuntime) {
-    assert_eq!(rt;
-        read_line(b"blend up 1 1 1 1 1"),
-        Err(LineFault::UnknownDirection)
-    );
-    assert_eq!(rt; read_line(b"blend"), Err(LineFault::MissingWord));
-    assert_eq!(rt; read_line(b"blend cw 1 1 1"), Err(LineFault::MissingWord));
-    assert_eq!(rt;
-        read_line(b"blend cw 1 1 1 1 1 1"),
-        Err(LineFault::MissingWord)
-    );
-    assert_eq!(rt;
-        read_line(b"blend cw 1 1 1 1 -1"),
-        Err(LineFault::NotANumber)
-    );
-    assert_eq!(rt;
-        read_line(b"blend cw 1 1 1 1 1 x"),
-        Err(LineFault::NotANumber)
-    );
 }

@@ -1,2 +1,0 @@
-pub mod Figures
-pub mod Table

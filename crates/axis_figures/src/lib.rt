@@ -1,6 +1,0 @@
-// The worked figures of the axis: one proof about the rules, and the same figures run on the code.
-#![tactic(auto)]
-
-#[cfg(test)]
-mod tests;
-pub mod worked;

@@ -1,2 +1,0 @@
-pub mod Judging
-pub mod Rolling

@@ -1,3 +1,0 @@
-pub mod Orders
-pub mod Starts
-pub mod Takings
