@@ -8,8 +8,8 @@ use axis::axis::Axis;
 use beds::choice::{OnBed, on_bed};
 use beds::motor::Motor;
 use block::refusal::answer_number;
-use script::line::Line;
 use profile::traits::Profile;
+use script::line::Line;
 use std::io;
 
 fn run_ticks<D: Motor, P: Profile>(

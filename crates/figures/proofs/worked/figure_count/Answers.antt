@@ -1,5 +1,4 @@
 use Rattle.std.proofs.Common.{refl}
-use Rattle.std.specs.List.{list_all}
 use Rattle.profile.specs.Rows.{steps_of}
 use Rattle.ramp.specs.Advances.{advance, greatest_to}
 use Rattle.ramp.specs.Braking.{braking, braking_in}
