@@ -97,10 +97,6 @@ class Smoothed:
         return self.below.decel
 
     @property
-    def rows(self):
-        return self.below.rows
-
-    @property
     def top(self):
         return self.below.top
 
