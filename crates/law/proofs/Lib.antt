@@ -1,0 +1,11 @@
+pub mod Blocks
+pub mod Changes
+pub mod Easings
+pub mod Facts
+pub mod Goods
+pub mod Inputs
+pub mod Legs
+pub mod Moves
+pub mod Ticks
+pub mod Views
+pub mod Lawfulness

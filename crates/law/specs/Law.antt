@@ -1,0 +1,100 @@
+-- The law of runs, said of the account of a run (Accounts) and of the moment that comes next. A drive goes at most g steps at once.
+use Rattle.std.specs.Prelude.{◌≡◌, ℕ, ◌<◌, ◌≤◌, Bool, true, false, List, [], ◌∷◌, ℤ, Some, None, Ok, Option, Result, MatchBool, ◌==◌, nat_lt, unsigned_abs}
+use Rattle.drive.specs.Drives.{DriveMeans, landing}
+use Rattle.profile.specs.Profiles.{ProfileMeans, fastest, up_div}
+use Rattle.axis.specs.Readings.{reading_answer, read_words}
+use Rattle.law.specs.Accounts.{Account, Timing, Rest, Effect, Moves, Holds, Stops, Presets, Ticks, Nothing, accepted_effect, account_after, is_over}
+use Rattle.law.specs.Calls.{Call, SetUp, Block, Event, Tick, Reading, Answer, Sent, Read, steps_in}
+use Rattle.law.specs.Journeys.{Leg, Journey, none, on, waiting, held, along, due_in}
+use Rattle.law.specs.Moments.{Seen, Moment, View, view_of}
+
+-- The profile has exactly the leg's plan, and the position is the leg's beginning plus, in the leg's direction, the whole steps of gone.
+abbrev pub Along : ℤ → Leg → View → Type 0
+Along x l v = (v.profile.plan ≡ Some l.plan) × (v.position ≡ along x l v.profile.gone)
+
+-- Where the journey is: on a leg, also while it is held, the position keeps up with gone; in a pause the leg before is over, the position
+-- is its end, and not more than the pause has been waited.
+abbrev pub Travels : Journey → View → Type 0
+Travels none v = Unit {0}
+Travels (on x l ls w) v = Along x l v
+Travels (waiting u x l ls w) v = (is_over v ≡ true) × (v.position ≡ x) × (u ≤ w)
+Travels (held x l) v = Along x l v
+
+-- What the journey says of a tick that comes next: it is on the leg, or it is in the pause, or after the whole pause it is on the next
+-- leg. So a leg of one tick shows its plan too.
+abbrev pub TravelsOn : Journey → View → Type 0
+TravelsOn none v = Unit {0}
+TravelsOn (on x l ls w) v = Along x l v
+TravelsOn (waiting u x l ls w) v = MatchBool (nat_lt u w) ((is_over v ≡ true) × (v.position ≡ x)) (Along x l v)
+TravelsOn (held x l) v = Along x l v
+
+-- steps that the drive takes; no steps are not delivered to it
+abbrev pub Takes : ℕ → DriveMeans → ℤ → ℤ → Type 0
+Takes g d n to = MatchBool (unsigned_abs n == 0) (Unit {0}) (landing g d n ≡ Ok to)
+
+-- A tick answers exactly the steps that are due, and the drive takes them all.
+pub record TickLaw (g : ℕ) (a : Account) (r : Answer) (v : View) : Type 0 where
+  pub sends : r ≡ Sent (due_in a.journey a.view.profile.gone v.profile.gone)
+  pub taken : Takes g a.view.drive (due_in a.journey a.view.profile.gone v.profile.gone) v.drive.place
+  pub travels : TravelsOn a.journey v
+
+-- A reading answers the words that are to be seen, and changes nothing.
+pub record ReadingLaw (a : Account) (buffer : List ℤ) (r : Answer) (words : List ℤ) (v : View) : Type 0 where
+  pub reads : r ≡ Read (reading_answer buffer) (read_words words buffer)
+  pub keeps : v ≡ a.view
+
+-- by the call
+abbrev pub CallLaw : ℕ → Account → Call → Answer → List ℤ → View → Type 0
+CallLaw g a (SetUp n) r ws v = Unit {0}
+CallLaw g a (Block b) r ws v = Unit {0}
+CallLaw g a (Event n) r ws v = Unit {0}
+CallLaw g a Tick r ws v = TickLaw g a r v
+CallLaw g a (Reading buffer) r ws v = ReadingLaw a buffer r ws v
+
+-- an accepted move clears Move_Complete, so that its end can be seen
+abbrev pub Clears : Effect → View → Type 0
+Clears (Moves to r) v = v.complete ≡ false
+Clears Holds v = Unit {0}
+Clears Stops v = Unit {0}
+Clears (Presets p) v = Unit {0}
+Clears Ticks v = Unit {0}
+Clears Nothing v = Unit {0}
+
+-- a move under way has ticks left
+abbrev pub InTime : Option Timing → Type 0
+InTime None = Unit {0}
+InTime (Some t) = t.passed < t.allowed
+
+-- where Move_Complete comes on, the position is where the move was sent
+abbrev pub Arrives : Account → View → Type 0
+Arrives a v = a.view.complete ≡ false → v.complete ≡ true → v.position ≡ a.sent_to
+
+-- no more ticks have sent steps than may
+abbrev pub Slow : Option Rest → Type 0
+Slow None = Unit {0}
+Slow (Some s) = s.sent ≤ s.allowed
+
+-- The law of one moment, after the account a, whose status words are ws.
+pub record Law (g : ℕ) (a : Account) (c : Call) (r : Answer) (ws : List ℤ) (v : View) : Type 0 where
+  -- the position and the place of the drive are both the last accepted preset, or before any the drive's first place, plus all steps
+  -- that ticks answered since
+  pub counts : (v.position ≡ (account_after a c r v).counted) × (v.drive.place ≡ (account_after a c r v).counted)
+  -- a call sends at most the plan's top in whole steps, rounded up
+  pub slow : unsigned_abs (steps_in r) ≤ up_div (fastest v.profile.plan) 1000
+  -- each tick sends exactly the whole steps of gone that were not sent before
+  pub call : CallLaw g a c r ws v
+  -- a move travels its legs in order, each with exactly its plan, and each pause has exactly its ticks
+  pub travels : Travels (account_after a c r v).journey v
+  -- a move that nothing stops ends within its ticks, exactly where it was sent
+  pub clears : Clears (accepted_effect a c r) v
+  pub in_time : InTime (account_after a c r v).underway
+  pub arrives : Arrives a v
+  -- after a hold only so many ticks send steps, and after a full stop none, until the next accepted move
+  pub rests : Slow (account_after a c r v).resting
+
+-- each moment of a run keeps the law, after those before it
+abbrev pub Lawful : ℕ → Account → List Moment → Type 0
+Lawful g a [] = Unit {0}
+Lawful g a (m ∷ ms) =
+    Law g a m.call m.answer m.seen.words (view_of m.seen)
+    × Lawful g (account_after a m.call m.answer (view_of m.seen)) ms
