@@ -1,13 +1,10 @@
 -- What the words of a line say. They are taken from left to right, and the first fault counts:
 -- a word that is missing, one that does not fit its place, and at last one too many.
-use Rattle.std.specs.Prelude.{ℕ, ℤ, cond, List, [], ◌∷◌, drop, Ok, Err, codes, Result}
+use Rattle.std.specs.Prelude.{ℕ, ℤ, List, [], ◌∷◌, drop, Ok, Err, Result}
 use Rattle.std.specs.Option.{ok_or}
-use Rattle.std.specs.Str.{bytes_eq}
-use Rattle.drive.specs.declared.direction.Direction.{Direction}
-use Rattle.drive.specs.declared.direction.Direction.TheVariants.{Cw, Ccw}
 use Rattle.text.specs.Decimals.{natural_of, number_of, word_of}
 use Rattle.bed.specs.declared.fault.LineFault.{LineFault}
-use Rattle.bed.specs.declared.fault.LineFault.TheVariants.{UnknownDirection, MissingWord, ExtraWord, NotANumber}
+use Rattle.bed.specs.declared.fault.LineFault.TheVariants.{MissingWord, ExtraWord, NotANumber}
 
 -- a signed number of 32 bits, an unsigned one, and a signed one of 16 bits
 abbrev pub integer : List ℕ → Result ℤ LineFault
@@ -18,9 +15,6 @@ natural w = ok_or (natural_of w) NotANumber
 
 abbrev pub short : List ℕ → Result ℤ LineFault
 short w = ok_or (word_of w) NotANumber
-
-abbrev pub direction_word : List ℕ → Result Direction LineFault
-direction_word w = cond (bytes_eq w (codes "cw")) (Ok Cw) (cond (bytes_eq w (codes "ccw")) (Ok Ccw) (Err UnknownDirection))
 
 -- what the first word says, by the way to read it
 abbrev pub first_as : {A : Type 0} → (List ℕ → Result A LineFault) → List (List ℕ) → Result A LineFault

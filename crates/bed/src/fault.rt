@@ -10,8 +10,6 @@ pub enum LineFault {
     UnknownDrive,
     #[error("unknown profile (creep, ramp, or one of them after at most two smooth LENGTH)")]
     UnknownProfile,
-    #[error("unknown direction (cw or ccw)")]
-    UnknownDirection,
     #[error("a word is missing")]
     MissingWord,
     #[error("a word too many")]

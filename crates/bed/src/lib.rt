@@ -1,4 +1,4 @@
-// What the scripts of both programs share: the words that name a bed, and the faults of a line.
+// The words of a script's line that name a bed, numbers among them, and the faults of a line.
 #![tactic(auto)]
 
 pub mod fault;

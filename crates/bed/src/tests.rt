@@ -1,7 +1,6 @@
 use crate::fault::LineFault;
 use crate::kind::{BaseProfile, DriveKind, ProfileKind, Smoothings, bed_kind};
 use crate::word::{FromWord, only};
-use drive::direction::Direction;
 use text::text::Words;
 
 #[test]
@@ -31,9 +30,4 @@ fn words(rt: HostRuntime) {
     assert_eq!(rt; only::<i32>(Words::of(b"-5")), Ok(-5));
     assert_eq!(rt; only::<u32>(Words::of(b"-5")), Err(LineFault::NotANumber));
     assert_eq!(rt; only::<i16>(Words::of(b"0xffff")), Ok(-1));
-    assert_eq!(rt; Direction::from_word(b"ccw"), Ok(Direction::Ccw));
-    assert_eq!(rt;
-        Direction::from_word(b"cc"),
-        Err(LineFault::UnknownDirection)
-    );
 }

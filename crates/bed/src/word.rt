@@ -1,11 +1,10 @@
 // What a word of a line says.
 ghost use Rattle.std.specs.Prelude.{◌≡◌, List, ℕ, drop, Result};
-ghost use Rattle.bed.specs.Words.{direction_word, first_as, integer, natural, short, complete as complete_of, only as only_of};
+ghost use Rattle.bed.specs.Words.{first_as, integer, natural, short, complete as complete_of, only as only_of};
 ghost use Rattle.bed.specs.declared.fault.LineFault.{LineFault as Fault};
 ghost use Rattle.text.specs.Texts.{words_left};
 
 use crate::fault::LineFault;
-use drive::direction::Direction;
 use text::number;
 use text::text::Words;
 
@@ -39,18 +38,6 @@ impl FromWord for i16 {
 
     fn from_word(word: &[u8]) -> Result<i16, LineFault> {
         number::word(word).ok_or(LineFault::NotANumber)
-    }
-}
-
-impl FromWord for Direction {
-    ghost read = { direction_word };
-
-    fn from_word(word: &[u8]) -> Result<Direction, LineFault> {
-        match word {
-            b"cw" => Ok(Direction::Cw),
-            b"ccw" => Ok(Direction::Ccw),
-            _ => Err(LineFault::UnknownDirection),
-        }
     }
 }
 

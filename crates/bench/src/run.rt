@@ -41,9 +41,8 @@ impl fmt::Display for Outcome {
 }
 
 // Begins the plan and ticks until nothing is left, with a brake after so many ticks, if any. It takes no more ticks than the plan may
-// take, and without a brake every millistep of the plan has gone. A loop of its own beside that of a cut: one for both would take a trait
-// for what a turn does, sums and brakes here, sends and tells there, with a law for what it leaves. A `while`, as there: the number of
-// ticks is not known before, and an iterator of advances would keep the profile borrowed, which a turn may brake.
+// take, and without a brake every millistep of the plan has gone. A `while`: the number of ticks is not known before, and an iterator of
+// advances would keep the profile borrowed, which a turn may brake.
 pub fn run_plan<P: Profile>(profile: &mut P, plan: Plan, braked: Option<u64>) -> Outcome
     ensures over { (P.Profile.means profile.new).left ≡ 0 }
     ensures gone { braked ≡ None → (P.Profile.means profile.new).gone ≡ 1000 * plan_steps (plan_means plan) }

@@ -56,7 +56,7 @@ fn command(heap: Global, name: &[u8], words: Words) -> Result<Line, ReadFault>
     }
 }
 
-// What a line says, or why it is not read. Cut scripts have this frame too, around a command and a line of their own.
+// What a line says, or why it is not read.
 pub fn read_line(heap: Global, text: &[u8]) -> Result<Line, ReadFault>
     ensures { Read line_means (line_of text.now) result }
 {
