@@ -19,11 +19,17 @@ pub data LineMeans : Type 0 where
   Block : List ℤ → LineMeans
   Event : ℤ → LineMeans
   Tick : ℕ → LineMeans
+  Reading : ℕ → LineMeans
 
 -- how many ticks: one where no word says it
 abbrev pub ticks_of : List (List ℕ) → Result ℕ LineFault
 ticks_of [] = Ok 1
 ticks_of (w ∷ ws) = only natural (w ∷ ws)
+
+-- how many words the buffer of a reading has: ten where no word says it
+abbrev pub size_of : List (List ℕ) → Result ℕ LineFault
+size_of [] = Ok 10
+size_of (w ∷ ws) = only natural (w ∷ ws)
 
 -- the 16-bit words of a block, one to a word
 abbrev pub block_of : List (List ℕ) → Result (List ℤ) LineFault
@@ -40,7 +46,8 @@ command_of w ws =
     (cond (bytes_eq w (codes "block")) (making Block (block_of ws))
     (cond (bytes_eq w (codes "event")) (making Event (only integer ws))
     (cond (bytes_eq w (codes "tick")) (making Tick (ticks_of ws))
-    (Err UnknownCommand)))))))
+    (cond (bytes_eq w (codes "reading")) (making Reading (size_of ws))
+    (Err UnknownCommand))))))))
 
 abbrev pub line_of_words : List (List ℕ) → Result LineMeans LineFault
 line_of_words [] = Ok Blank

@@ -1,6 +1,6 @@
 // Reads a line of a call script: its first word is the command, and the others are what the command takes.
 ghost use Rattle.std.specs.Prelude.{◌≡◌, vec_items};
-ghost use Rattle.script.specs.Lines.{ticks_of, block_of, command_of, line_of};
+ghost use Rattle.script.specs.Lines.{ticks_of, size_of, block_of, command_of, line_of};
 ghost use Rattle.script.specs.Readings.{Read, line_means};
 ghost use Rattle.text.specs.Texts.{words_left};
 
@@ -23,6 +23,19 @@ fn ticks(mut words: Words) -> Result<u32, LineFault>
             complete(words, count)
         }
         None => Ok(1),
+    }
+}
+
+// How many words the buffer of a reading has: ten where no word says it.
+fn size(mut words: Words) -> Result<u32, LineFault>
+    ensures { result ≡ size_of (words_left words.entry) }
+{
+    match words.next() {
+        Some(word) => {
+            let count = u32::from_word(word)?;
+            complete(words, count)
+        }
+        None => Ok(10),
     }
 }
 
@@ -53,6 +66,7 @@ fn command(heap: Global, name: &[u8], words: Words) -> Result<Line, ReadFault>
         Command::Block => Ok(Line::Block(block(heap, words)?)),
         Command::Event => Ok(Line::Event(only(words)?)),
         Command::Tick => Ok(Line::Tick(ticks(words)?)),
+        Command::Reading => Ok(Line::Reading(size(words)?)),
     }
 }
 
