@@ -4,8 +4,8 @@ ghost use Rattle.longbed.specs.Orders.{start_at, stage_after};
 ghost use Rattle.script.specs.Readings.{line_means};
 
 use bed::kind::BedKind;
-use script::line::Line;
 use drive::position::is_position;
+use script::line::Line;
 use thiserror::Error;
 
 // The bed, and how its drive stands before the first call.
