@@ -27,6 +27,11 @@ def bit(word, number):
     return (word >> number) & 1 == 1
 
 
+def word_of(bits):
+    """The word with those bits set that are true."""
+    return sum(1 << number for number, on in bits.items() if on)
+
+
 def pair(first, second):
     """The number that a pair of words holds, or None where it breaks the pair rule."""
     if sign(first) * sign(second) < 0 or abs(second) >= 1000:
@@ -426,32 +431,39 @@ class Axis:
 
     # ---- Readings
 
-    def reading(self, count):
-        """The answer, and the ten words where the buffer of so many words takes them (None where it stays unchanged)."""
-        if count < 10:
-            return 12, None
+    def reading(self, buffer):
+        """The answer, and the words of the buffer afterwards."""
+        if len(buffer) < 10:
+            return 12, buffer
+        return 0, self.status_words() + buffer[10:]
+
+    def status_words(self):
         moving = not self.stopped()
         direction = self.legs[self.leg][0] if moving else 0
-        last, before = ([0, 0] + self.advances)[:-3:-1]
-        word0 = 1 << 14
-        word0 |= self.flags["Configuration_Error"] << 13
-        word0 |= self.flags["Command_Error"] << 12
-        word0 |= self.flags["Input_Error"] << 11
-        word0 |= self.flags["Position_Invalid"] << 10
-        word0 |= (self.state == "Programming" and len(self.table) < 16 and not bit(self.kept, 12)) << 9
-        word0 |= (self.state == "Programming") << 8
-        word0 |= self.flags["Move_Complete"] << 7
-        word0 |= (moving and last < before) << 6
-        word0 |= (moving and last > before) << 5
-        word0 |= self.stopped() << 3
-        word0 |= (self.state == "Held") << 2
-        word0 |= (direction == -1) << 1
-        word0 |= (direction == 1) << 0
-        word1 = self.drive.tripped << 7 | self.estop << 2 | self.limit[-1] << 1 | self.limit[1] << 0
+        before, last = ([0, 0] + self.advances)[-2:]
+        waiting = self.state == "Programming" and len(self.table) < 16 and not bit(self.kept, 12)
+        status = {
+            14: True,
+            13: self.flags["Configuration_Error"],
+            12: self.flags["Command_Error"],
+            11: self.flags["Input_Error"],
+            10: self.flags["Position_Invalid"],
+            9: waiting,
+            8: self.state == "Programming",
+            7: self.flags["Move_Complete"],
+            6: moving and last < before,
+            5: moving and last > before,
+            3: self.stopped(),
+            2: self.state == "Held",
+            1: direction == -1,
+            0: direction == 1,
+        }
+        inputs = {7: self.drive.tripped, 2: self.estop, 1: self.limit[-1], 0: self.limit[1]}
         size = abs(self.position)
         thousands, rest = sign(self.position) * (size // 1000), sign(self.position) * (size % 1000)
+        # promised: the words say the position
         assert pair(thousands, rest) == self.position
-        return 0, [word0, word1, thousands, rest, 0, 0, 0, 0, 0, 0]
+        return [word_of(status), word_of(inputs), thousands, rest, 0, 0, 0, 0, 0, 0]
 
     # ---- What holds after every call
 

@@ -10,6 +10,7 @@
   block 0x0200 0 5 0 0 0 0 0 0 0
   event 5
   tick 12                    twelve ticks; one if not told
+  reading 12                 a reading into a buffer of twelve words, which are 7 beforehand; ten if not told
 """
 import sys
 
@@ -63,6 +64,10 @@ def call(axis, name, rest):
         return " ".join(["block"] + rest) + f": {axis.block([word(text) for text in rest])}"
     if name == "event":
         return f"event {rest[0]}: {axis.event(int(rest[0]))}"
+    if name == "reading":
+        count = int(rest[0]) if rest else 10
+        answer, words = axis.reading([7] * count)
+        return " ".join([f"reading {count}: {answer}"] + [str(word) for word in words])
     assert name == "tick"
     count = int(rest[0]) if rest else 1
     return " ".join([f"tick {count}:"] + [str(axis.tick()) for _ in range(count)])

@@ -165,6 +165,11 @@ class Drawer:
             count = min(count, draw.choice([1, 2, 5, 40]))
         self.make("tick" if count == 1 and draw.random() < 0.3 else f"tick {count}")
 
+    def reading(self):
+        draw = self.draw
+        count = draw.choice([10, 10, 10, 10, 11, 12, 0, 1, 9, 9, draw.randint(0, 40)])
+        self.make("reading" if count == 10 and draw.random() < 0.3 else f"reading {count}")
+
     def setup(self):
         draw = self.draw
         start = self.start()
@@ -175,6 +180,9 @@ class Drawer:
     def all(self):
         draw, axis = self.draw, self.axis
         while self.calls < self.count:
+            if draw.random() < 0.25:
+                self.reading()
+                continue
             unset = axis.flags["Configuration_Error"]
             levels = axis.limit[1] or axis.limit[-1] or axis.estop
             chance = draw.random()

@@ -31,6 +31,19 @@ def main():
 
         setattr(axis.Axis, name, counting)
 
+    plain_reading = axis.Axis.reading
+    bits = collections.defaultdict(set)  # the values that a bit of word 0 or 1 had in readings
+
+    def reading(self, buffer):
+        answer, words = plain_reading(self, buffer)
+        answers[answer] += 1
+        if answer == 0:
+            for word, number in [(0, number) for number in range(16)] + [(1, number) for number in range(16)]:
+                bits[word, number].add(axis.bit(words[word], number))
+        return answer, words
+
+    axis.Axis.reading = reading
+
     scripts = sorted((pathlib.Path(__file__).resolve().parent / "scenarios").glob("*.calls"))
     for script in scripts:
         printed, _ = played(script.read_text().split("\n"))
@@ -39,6 +52,9 @@ def main():
     print("answers:", ", ".join(f"{answer} ({times})" for answer, times in sorted(answers.items())))
     for command in axis.COMMANDS.values():
         print(f"{command}:", ", ".join(f"{state} {met[state, command]}" for state in STATES))
+    for word, number in [(0, number) for number in range(14) if number != 4] + [(1, number) for number in [0, 1, 2, 7]]:
+        if len(bits[word, number]) < 2:
+            print(f"not covered: both values of bit {number} of word {word}")
     for state in STATES:
         for command in axis.COMMANDS.values():
             # The Program bit is kept while programming, so there it cannot rise.

@@ -36,6 +36,7 @@ is_limit refusal.PositionInvalid = false
 is_limit refusal.Course = false
 is_limit refusal.Limit = true
 is_limit refusal.EventCode = false
+is_limit refusal.ShortBuffer = false
 is_limit refusal.StartSpeed = false
 
 abbrev pub marked : MemoryMeans → Refusal → MemoryMeans

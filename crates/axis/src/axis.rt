@@ -6,6 +6,7 @@ mod carry;
 mod event;
 mod judge;
 mod power;
+mod reading;
 mod setup;
 mod tick;
 

@@ -8,6 +8,7 @@ use table::table::Table;
 
 mod rests;
 mod runs;
+mod tells;
 
 // What it means is said by `memory_means`: a model in its place would save a word in each clause, and bring an `impl`.
 #[derive(Drop)]

@@ -1,4 +1,8 @@
 // The state of the axis.
+ghost use Rattle.std.specs.Prelude.{◌≡◌};
+ghost use Rattle.axis.specs.Judging.{programs, is_held};
+ghost use Rattle.axis.specs.Readings.{is_moving, moves};
+
 use crate::order::DwellRow;
 use drive::direction::Direction;
 
@@ -31,4 +35,35 @@ pub enum Kind {
     Blend,
     // This row of the table, as a plan of its own.
     Dwell(DwellRow),
+}
+
+impl State {
+    pub(crate) fn programs(self) -> bool
+        ensures { result ≡ programs self }
+    {
+        matches!(self, State::Programming)
+    }
+
+    pub(crate) fn is_held(self) -> bool
+        ensures { result ≡ is_held self }
+    {
+        matches!(self, State::Held(_))
+    }
+
+    // Whether a plan is in motion.
+    pub(crate) fn is_moving(self) -> bool
+        ensures { result ≡ is_moving self }
+    {
+        matches!(self, State::Running(_) | State::Holding(_))
+    }
+
+    // Whether one is in motion in a direction.
+    pub(crate) fn moves(self, direction: Direction) -> bool
+        ensures { result ≡ moves direction self }
+    {
+        match self {
+            State::Running(travel) | State::Holding(travel) => direction == travel.direction,
+            State::Idle | State::Programming | State::Pausing { .. } | State::Held(_) => false,
+        }
+    }
 }

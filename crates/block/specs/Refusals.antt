@@ -15,6 +15,7 @@ number_of refusal.PositionInvalid = 8
 number_of refusal.Course = 9
 number_of refusal.Limit = 10
 number_of refusal.EventCode = 11
+number_of refusal.ShortBuffer = 12
 number_of refusal.StartSpeed = 13
 
 -- what a call answers: 0 where it is accepted

@@ -7,6 +7,9 @@ use crate::refusal::Refusal;
 // The bit of word 0 that stays set through a programming.
 pub const PROGRAM: u16 = 0x0800;
 
+// The bit of word 0 that adds a row.
+pub const SEGMENT: u16 = 0x1000;
+
 #[derive(Clone, Copy, PartialEq, Eq, Debug)]
 pub enum Command {
     Absolute,
@@ -36,7 +39,7 @@ pub fn commanded(rising: u16) -> Result<Option<Command>, Refusal>
         0x0200 => Ok(Some(Command::Preset)),
         0x0400 => Ok(Some(Command::Reset)),
         PROGRAM => Ok(Some(Command::Program)),
-        0x1000 => Ok(Some(Command::Segment)),
+        SEGMENT => Ok(Some(Command::Segment)),
         0x2000 => Ok(Some(Command::Run)),
         _ => Err(Refusal::SeveralCommands),
     }

@@ -27,6 +27,8 @@ pub enum Refusal {
     Limit = 10,
     // There is no event with this code.
     EventCode = 11,
+    // The buffer of a reading has less than ten words.
+    ShortBuffer = 12,
     // The starting speed of a set-up is out of range.
     StartSpeed = 13,
 }

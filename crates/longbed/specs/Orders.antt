@@ -1,7 +1,7 @@
 -- The order of a script's lines: the bed first and once, then how its drive stands at first, then the calls.
 use Rattle.std.specs.Prelude.{true, false, cond, ℤ, pos, Ok, Err, Result}
 use Rattle.drive.specs.Positions.{is_position}
-use Rattle.script.specs.Lines.{LineMeans, Blank, Bed, At, Tripped, Setup, Block, Event, Tick}
+use Rattle.script.specs.Lines.{LineMeans, Blank, Bed, At, Tripped, Setup, Block, Event, Tick, Reading}
 use Rattle.bed.specs.declared.kind.BedKind.{BedKind}
 use Rattle.longbed.specs.declared.order.OrderFault.{OrderFault}
 use Rattle.longbed.specs.declared.order.OrderFault.TheVariants.{NoBed, SecondBed, TooLate, NoPosition}
@@ -31,6 +31,7 @@ after_unnamed (Setup v) = Err NoBed
 after_unnamed (Block ws) = Err NoBed
 after_unnamed (Event e) = Err NoBed
 after_unnamed (Tick n) = Err NoBed
+after_unnamed (Reading n) = Err NoBed
 
 -- before the first call, the last `at` counts
 abbrev pub after_preparing : Start → LineMeans → Result Stage OrderFault
@@ -42,6 +43,7 @@ after_preparing s (Setup v) = Ok (Calling s)
 after_preparing s (Block ws) = Ok (Calling s)
 after_preparing s (Event e) = Ok (Calling s)
 after_preparing s (Tick n) = Ok (Calling s)
+after_preparing s (Reading n) = Ok (Calling s)
 
 -- from the first call on, only calls
 abbrev pub after_calling : Start → LineMeans → Result Stage OrderFault
@@ -53,6 +55,7 @@ after_calling s (Setup v) = Ok (Calling s)
 after_calling s (Block ws) = Ok (Calling s)
 after_calling s (Event e) = Ok (Calling s)
 after_calling s (Tick n) = Ok (Calling s)
+after_calling s (Reading n) = Ok (Calling s)
 
 -- what a line makes of a stage, or why it cannot stand there
 abbrev pub stage_after : Stage → LineMeans → Result Stage OrderFault

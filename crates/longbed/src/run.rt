@@ -25,6 +25,21 @@ fn run_ticks<D: Motor, P: Profile>(
     println!(rt)
 }
 
+// A reading into a buffer of so many words, which holds sevens beforehand. All its words are printed as they stand afterwards.
+fn run_reading<D: Motor, P: Profile>(
+    rt: &HostRuntime,
+    axis: &Axis<D, P>,
+    size: u32,
+) -> io::Result<()> {
+    let mut buffer = vec![in rt.alloc(); 7; size as usize]?;
+    let answer = answer_number(axis.reading(buffer.as_mut_slice()));
+    print!(rt; "reading {size}: {answer}")?;
+    for word in buffer.iter() {
+        print!(rt; " {word}")?;
+    }
+    println!(rt)
+}
+
 // Makes the call of a line and prints its answer; a line that is no call has been heeded before the first.
 fn run_entry<D: Motor, P: Profile>(
     rt: &HostRuntime,
@@ -46,6 +61,7 @@ fn run_entry<D: Motor, P: Profile>(
             println!(rt; "event {code}: {answer}")
         }
         Line::Tick(count) => run_ticks(rt, axis, *count),
+        Line::Reading(size) => run_reading(rt, axis, *size),
         Line::Blank | Line::Bed(_) | Line::At(_) | Line::Tripped => Ok(()),
     }
 }

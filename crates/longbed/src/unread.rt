@@ -19,7 +19,7 @@ pub enum Unread {
 fn hint(fault: &ReadFault) -> &'static str {
     match fault {
         ReadFault::Line(LineFault::UnknownCommand) => {
-            " (bed, at, tripped, setup, block, event or tick)"
+            " (bed, at, tripped, setup, block, event, tick or reading)"
         }
         _ => "",
     }

@@ -4,7 +4,7 @@ use Rattle.std.specs.Str.{bytes_eq}
 use Rattle.bed.specs.declared.fault.LineFault.{LineFault}
 use Rattle.bed.specs.declared.fault.LineFault.TheVariants.{UnknownCommand}
 use Rattle.script.specs.declared.command.Command.{Command}
-use Rattle.script.specs.declared.command.Command.TheVariants.{Bed, At, Tripped, Setup, Block, Event, Tick}
+use Rattle.script.specs.declared.command.Command.TheVariants.{Bed, At, Tripped, Setup, Block, Event, Tick, Reading}
 
 abbrev pub command_word : List ℕ → Result Command LineFault
 command_word w =
@@ -15,4 +15,5 @@ command_word w =
     (cond (bytes_eq w (codes "block")) (Ok Block)
     (cond (bytes_eq w (codes "event")) (Ok Event)
     (cond (bytes_eq w (codes "tick")) (Ok Tick)
-    (Err UnknownCommand)))))))
+    (cond (bytes_eq w (codes "reading")) (Ok Reading)
+    (Err UnknownCommand))))))))

@@ -19,18 +19,19 @@ pub data LineMeans : Type 0 where
   Block : List ℤ → LineMeans
   Event : ℤ → LineMeans
   Tick : ℕ → LineMeans
+  Reading : ℕ → LineMeans
 
--- how many ticks: one where no word says it
-abbrev pub ticks_of : List (List ℕ) → Result ℕ LineFault
-ticks_of [] = Ok 1
-ticks_of (w ∷ ws) = only natural (w ∷ ws)
+-- how many: as a word says, or so many where none does
+abbrev pub count_of : ℕ → List (List ℕ) → Result ℕ LineFault
+count_of unsaid [] = Ok unsaid
+count_of unsaid (w ∷ ws) = only natural (w ∷ ws)
 
 -- the 16-bit words of a block, one to a word
 abbrev pub block_of : List (List ℕ) → Result (List ℤ) LineFault
 block_of [] = Ok []
 block_of (w ∷ ws) = elim (short w) [ Ok v ↦ making (λ vs. v ∷ vs) (block_of ws) | Err e ↦ Err e ]
 
--- a command, with the words after it
+-- a command, with the words after it; `tick` alone is one tick, and `reading` alone a reading into a buffer of ten words
 abbrev pub command_of : List ℕ → List (List ℕ) → Result LineMeans LineFault
 command_of w ws =
     cond (bytes_eq w (codes "bed")) (making Bed (bed_of ws))
@@ -39,8 +40,9 @@ command_of w ws =
     (cond (bytes_eq w (codes "setup")) (making Setup (only integer ws))
     (cond (bytes_eq w (codes "block")) (making Block (block_of ws))
     (cond (bytes_eq w (codes "event")) (making Event (only integer ws))
-    (cond (bytes_eq w (codes "tick")) (making Tick (ticks_of ws))
-    (Err UnknownCommand)))))))
+    (cond (bytes_eq w (codes "tick")) (making Tick (count_of 1 ws))
+    (cond (bytes_eq w (codes "reading")) (making Reading (count_of 10 ws))
+    (Err UnknownCommand))))))))
 
 abbrev pub line_of_words : List (List ℕ) → Result LineMeans LineFault
 line_of_words [] = Ok Blank

@@ -1,6 +1,6 @@
 -- What the reading of a line answers. Want of memory says nothing of the line.
 use Rattle.std.specs.Prelude.{◌≡◌, Ok, Err, vec_items, Result}
-use Rattle.script.specs.Lines.{LineMeans, Blank, Bed, At, Tripped, Setup, Block, Event, Tick}
+use Rattle.script.specs.Lines.{LineMeans, Blank, Bed, At, Tripped, Setup, Block, Event, Tick, Reading}
 use Rattle.bed.specs.declared.fault.LineFault.{LineFault}
 use Rattle.script.specs.declared.fault.ReadFault.{ReadFault}
 use Rattle.script.specs.declared.fault.ReadFault.TheVariants as fault
@@ -16,6 +16,7 @@ line_means (line.Setup speed) = Setup speed
 line_means (line.Block words) = Block (vec_items words)
 line_means (line.Event code) = Event code
 line_means (line.Tick count) = Tick count
+line_means (line.Reading count) = Reading count
 
 -- what was read means exactly what is to be read, and a fault is exactly the fault of that
 abbrev pub Read : {A B : Type 0} → (A → B) → Result B LineFault → Result A ReadFault → Type 0

@@ -13,6 +13,7 @@ pub enum Command {
     Block,
     Event,
     Tick,
+    Reading,
 }
 
 impl FromWord for Command {
@@ -27,6 +28,7 @@ impl FromWord for Command {
             b"block" => Ok(Command::Block),
             b"event" => Ok(Command::Event),
             b"tick" => Ok(Command::Tick),
+            b"reading" => Ok(Command::Reading),
             _ => Err(LineFault::UnknownCommand),
         }
     }

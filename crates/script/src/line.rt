@@ -12,4 +12,6 @@ pub enum Line {
     Block(Vec<i16>),
     Event(i32),
     Tick(u32),
+    // A reading into a buffer of so many words.
+    Reading(u32),
 }

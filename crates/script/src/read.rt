@@ -1,6 +1,6 @@
 // Reads a line of a call script: its first word is the command, and the others are what the command takes.
 ghost use Rattle.std.specs.Prelude.{◌≡◌, vec_items};
-ghost use Rattle.script.specs.Lines.{ticks_of, block_of, command_of, line_of};
+ghost use Rattle.script.specs.Lines.{count_of, block_of, command_of, line_of};
 ghost use Rattle.script.specs.Readings.{Read, line_means};
 ghost use Rattle.text.specs.Texts.{words_left};
 
@@ -13,16 +13,16 @@ use bed::word::{FromWord, complete, only};
 use std::alloc::Global;
 use text::text::{Words, uncommented};
 
-// How many ticks: one where no word says it.
-fn ticks(mut words: Words) -> Result<u32, LineFault>
-    ensures { result ≡ ticks_of (words_left words.entry) }
+// How many: as a word says, or so many where none does.
+fn count(mut words: Words, unsaid: u32) -> Result<u32, LineFault>
+    ensures { result ≡ count_of unsaid (words_left words.entry) }
 {
     match words.next() {
         Some(word) => {
             let count = u32::from_word(word)?;
             complete(words, count)
         }
-        None => Ok(1),
+        None => Ok(unsaid),
     }
 }
 
@@ -52,7 +52,8 @@ fn command(heap: Global, name: &[u8], words: Words) -> Result<Line, ReadFault>
         Command::Setup => Ok(Line::Setup(only(words)?)),
         Command::Block => Ok(Line::Block(block(heap, words)?)),
         Command::Event => Ok(Line::Event(only(words)?)),
-        Command::Tick => Ok(Line::Tick(ticks(words)?)),
+        Command::Tick => Ok(Line::Tick(count(words, 1)?)),
+        Command::Reading => Ok(Line::Reading(count(words, 10)?)),
     }
 }
 

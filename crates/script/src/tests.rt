@@ -55,6 +55,14 @@ fn calls(rt: HostRuntime) -> Result<(), Fail> {
     assert!(rt; matches!(read_line(heap, b"event -5"), Ok(Line::Event(-5))));
     assert!(rt; matches!(read_line(heap, b"tick"), Ok(Line::Tick(1))));
     assert!(rt; matches!(read_line(heap, b"tick 0"), Ok(Line::Tick(0))));
+    assert!(rt; matches!(read_line(heap, b"reading"), Ok(Line::Reading(10))));
+    assert!(rt; matches!(read_line(heap, b"reading 0"), Ok(Line::Reading(0))));
+    assert!(rt;
+        matches!(
+            read_line(heap, b"reading 12 # words"),
+            Ok(Line::Reading(12))
+        )
+    );
     match read_line(heap, b"block 0x0200 -5 0xffff") {
         Ok(Line::Block(words)) => {
             assert_eq!(rt; words.as_slice(), [512i16, -5, -1].as_slice());
@@ -88,6 +96,9 @@ fn faults(rt: HostRuntime) {
         (b"tick -1 2".as_slice(), LineFault::NotANumber),
         (b"tick 1 2".as_slice(), LineFault::ExtraWord),
         (b"block 1 0x 2".as_slice(), LineFault::NotANumber),
+        (b"reading -1".as_slice(), LineFault::NotANumber),
+        (b"reading 10 x".as_slice(), LineFault::ExtraWord),
+        (b"readings".as_slice(), LineFault::UnknownCommand),
     ] {
         assert_eq!(rt; fault(heap, text), Some(ReadFault::Line(expected)));
     }

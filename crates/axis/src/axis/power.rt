@@ -35,6 +35,12 @@ impl<D: Drive, P: Profile> Axis<D, P> {
         &self.drive
     }
 
+    pub fn profile(&self) -> &P
+        ensures { result.now ≡ self.now.profile }
+    {
+        &self.profile
+    }
+
     pub fn flags(&self) -> Flags
         ensures { result ≡ self.now.memory.flags }
     {

@@ -17,3 +17,6 @@ returns-in-event c = sym (ap command_word (text_from_reads c.args.word.now (code
 
 pub returns-in-tick : goal.returns-in-tick
 returns-in-tick c = sym (ap command_word (text_from_reads c.args.word.now (codes "tick") (omega arith) (search rules)))
+
+pub returns-in-reading : goal.returns-in-reading
+returns-in-reading c = sym (ap command_word (text_from_reads c.args.word.now (codes "reading") (omega arith) (search rules)))
