@@ -1,3 +1,4 @@
+pub mod Commands
 pub mod Orders
 pub mod Readiness
 pub mod Readings

@@ -36,7 +36,7 @@ hears (Err why) next y e = absurd (none_so why y e)
 hears (Ok x) next y e = (x, e)
 
 -- a move that may be made
-moves : (m : AxisMeans) (fits : Bool) (next : Result Order Refusal) (o : Order) → move_asked m fits next ≡ Ok o → (fits ≡ true) × (not (inhibited m) ≡ true) × (next ≡ Ok o)
+pub moves : (m : AxisMeans) (fits : Bool) (next : Result Order Refusal) (o : Order) → move_asked m fits next ≡ Ok o → (fits ≡ true) × (not (inhibited m) ≡ true) × (next ≡ Ok o)
 unfolding may_move
 moves m fits next o e = on fits (not (inhibited m)) e
   where
