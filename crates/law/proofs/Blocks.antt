@@ -1,14 +1,13 @@
 -- Blocks.
-use Rattle.std.proofs.Common.{◌≡◌, ℕ, zero, suc, ◌+◌, ◌-◌, ◌*◌, ◌<◌, ◌≤◌, Bool, true, false, cond, not, ◌||◌, ◌&&◌, eqb, ltb, List, [], ◌∷◌, ◌++◌, map, length, drop, ℤ, pos, ◌+ℤ◌, nat_abs, Some, None, Ok, Err, Option, Result, MatchBool, refl, sym, ap, ◌∙◌, subst, arith}
-use Rattle.std.proofs.lemmas.Bool.{both_ways, or_right, or_left, false≢true, true≢false, cond_both, and_parts, eqb-true, eqb-false, ltb-false}
+use Rattle.std.proofs.Common.{◌≡◌, ℕ, ◌<◌, ◌≤◌, Bool, true, false, cond, not, ◌||◌, eqb, ltb, List, [], ◌∷◌, ◌++◌, map, length, ℤ, pos, ◌+ℤ◌, nat_abs, Some, None, Ok, Err, Option, Result, MatchBool, refl, sym, ap, ◌∙◌, subst, arith}
+use Rattle.std.proofs.lemmas.Bool.{both_ways, or_right, or_left, false≢true, cond_both, and_parts, eqb-true, eqb-false, ltb-false}
 use Rattle.drive.specs.Directions.{signed, toward}
-use Rattle.drive.specs.Drives.{DriveMeans, landed, setting, with_trip}
+use Rattle.drive.specs.Drives.{landed, setting}
 use Rattle.drive.specs.Positions.{is_position, distance}
 use Rattle.drive.specs.declared.fault.DriveFault.TheVariants as fault
-use Rattle.profile.specs.Plans.{PlanMeans, Lawful, plan_steps}
+use Rattle.profile.specs.Plans.{PlanMeans, plan_steps}
 use Rattle.profile.specs.Profiles.{ProfileMeans, Sound, Begun, Braked, brake_ticks}
 use Rattle.profile.specs.Rows.{steps_of}
-use Rattle.profile.specs.declared.row.Row.{Row}
 use Rattle.block.specs.Commands.{commanded}
 use Rattle.block.specs.Frames.{block_of, is_dwell_of, direction_of, clears_trip_of}
 use Rattle.block.specs.Words.{rising}
@@ -19,18 +18,16 @@ use Rattle.block.specs.declared.refusal.Refusal.{Refusal}
 use Rattle.block.specs.declared.refusal.Refusal.TheVariants as refusal
 use Rattle.table.specs.Segments.{row_of, way_of}
 use Rattle.table.specs.TablePlans.{row_at, blend_plan, row_plan}
-use Rattle.table.specs.Tables.{TableMeans, closed, emptied, added}
+use Rattle.table.specs.Tables.{TableMeans, closed, added}
 use Rattle.table.specs.declared.segment.Segment.{Segment}
 use Rattle.axis.proofs.Commands.{leg_to, absolute_is, relative_is, resume_is, preset_is, segment_is, blend_is, dwell_is}
-use Rattle.axis.proofs.Orders.{passes}
 use Rattle.axis.specs.Axes.{AxisMeans, with_memory}
-use Rattle.axis.specs.Blocks.{closes, kept_by, is_limit, marked, answered, finished, UsesBy, kept_axis, order_of, answer_of, after, UsesOf}
-use Rattle.axis.specs.Carrying.{began, go_travel, row_travel, held, preset, preset_memory, reset, programmed, carried, Uses}
+use Rattle.axis.specs.Blocks.{closes, is_limit, marked, answered, finished, UsesBy, kept_axis, answer_of, after, UsesOf}
+use Rattle.axis.specs.Carrying.{began, go_travel, row_travel, held, preset, reset, programmed, carried, Uses}
 use Rattle.axis.specs.Judging.{asked, rests, runs, programs, held_target, on_held, resume_judged, rates_of, run_of, allowed, values_judged, command_judged, judged, dwell_judged, blend_judged}
 use Rattle.axis.specs.Memories.{MemoryMeans, with_state, with_table, with_kept, with_flags, with_command, with_input}
 use Rattle.axis.specs.Plans.{leg_plan}
 use Rattle.axis.specs.Stops.{stopped, completed, rested, eased}
-use Rattle.axis.specs.declared.order.DwellRow.{DwellRow}
 use Rattle.axis.specs.declared.order.Order.{Order}
 use Rattle.axis.specs.declared.order.Order.TheVariants as order
 use Rattle.axis.specs.declared.state.Kind.{Kind}
@@ -39,15 +36,15 @@ use Rattle.axis.specs.declared.state.State.{State}
 use Rattle.axis.specs.declared.state.State.TheVariants.{Idle, Programming, Running, Pausing, Holding, Held}
 use Rattle.axis.specs.declared.state.Travel.{Travel}
 use Rattle.unrefused.specs.Fits.{Fit}
-use Rattle.law.proofs.Changes.{trace_by, good_by, stopped_rows, stopped_start, stopped_rests}
+use Rattle.law.proofs.Changes.{good_by, stopped_rows, stopped_start, stopped_rests}
 use Rattle.law.proofs.Easings.{no_distance}
-use Rattle.law.proofs.Facts.{plain, Trace, told, unmoved, rests_still, moves_still, legs_from, legs_end, later, AtRest, Aims, OnLeg, IsResting, IsRunning, Moving, Programmed, Holds}
+use Rattle.law.proofs.Facts.{plain, Trace, told, unmoved, rests_still, moves_still, legs_from, legs_end, AtRest, Aims, OnLeg, IsResting, IsRunning, Moving, Programmed, Holds}
 use Rattle.law.proofs.Goods.{Good}
 use Rattle.law.proofs.Legs.{legs_next}
 use Rattle.law.proofs.Moves.{older, move_good, rows_end, single_ends}
-use Rattle.law.specs.Accounts.{Account, Effect, Moves, Holds as HoldsEffect, Stops, Presets, Nothing, Ordered, ordered_by, ordered_in, ordered, kept_in, number_in, speed_in, segment_in, rows_by, rows_after, plan_in, single, blend, dwell, row_leg, sum_of, command_effect, block_effect}
-use Rattle.law.specs.Calls.{Call, Block as BlockCall, Answer, Replied}
-use Rattle.law.specs.Journeys.{Leg, Journey, none, on, waiting, held as held_on, braked}
+use Rattle.law.specs.Accounts.{Account, Moves, Holds as HoldsEffect, Stops, Presets, Nothing, ordered_by, ordered_in, kept_in, number_in, speed_in, segment_in, rows_by, rows_after, plan_in, single, blend, dwell, row_leg, sum_of, command_effect, block_effect}
+use Rattle.law.specs.Calls.{Call, Block as BlockCall, Replied}
+use Rattle.law.specs.Journeys.{Leg, Journey, none, held as held_on, braked}
 
 -- at rest
 pub resting : (s : State) (t : Trace) (tb : TableMeans) (place : ℤ) (p : ProfileMeans) → rests s ≡ true → Moving s t tb place p → IsResting t place p
@@ -119,11 +116,11 @@ module _ (g : ℕ) (k : AxisMeans) (t : Trace) (w : ℕ) (words : List ℤ) (b :
       record {
         rows = λ r. h.rows (sym (ap (λ z. programs z || x.memory.table.ready) st ∙ ap (λ (z : TableMeans). programs k.memory.state || z.ready) tb) ∙ r) ∙ ap (λ (z : TableMeans). z.rows) (sym tb);
         moving =
-          subst (λ z. Moving z (unmoved t x.memory.flags.complete) x.memory.table x.drive.place x.profile) (sym st)
-          (subst (λ z. Moving k.memory.state (unmoved t x.memory.flags.complete) z x.drive.place x.profile) (sym tb)
-          (subst (λ z. Moving k.memory.state (unmoved t x.memory.flags.complete) k.memory.table z x.profile) (sym d)
-          (subst (λ z. Moving k.memory.state (unmoved t x.memory.flags.complete) k.memory.table k.drive.place z) (sym q)
-          (moves_still k.memory.state x.memory.flags.complete t k.memory.table k.drive.place k.profile h.moving))));
+            subst (λ z. Moving z (unmoved t x.memory.flags.complete) x.memory.table x.drive.place x.profile) (sym st)
+            (subst (λ z. Moving k.memory.state (unmoved t x.memory.flags.complete) z x.drive.place x.profile) (sym tb)
+            (subst (λ z. Moving k.memory.state (unmoved t x.memory.flags.complete) k.memory.table z x.profile) (sym d)
+            (subst (λ z. Moving k.memory.state (unmoved t x.memory.flags.complete) k.memory.table k.drive.place z) (sym q)
+            (moves_still k.memory.state x.memory.flags.complete t k.memory.table k.drive.place k.profile h.moving))));
       }
 
   -- a refusal
@@ -247,10 +244,10 @@ module _ (g : ℕ) (k : AxisMeans) (t : Trace) (w : ℕ) (words : List ℤ) (b :
             cond_both (eqb p.left 0) _ _ P
             (λ e. rests_by travel.kind r.aims)
             (λ e.
-              let z = eqb-false _ _ e in
-              rest (with_state k.memory (Holding travel)) refl refl refl (λ q. ready q refl)
-              (record { from = r.from; leg = r.leg; journey = now; leg_is = on_it; busy = omega arith; aims = r.aims; over = refl; slows = omega (arith, soon) })
-              (λ x y. absurd (both_ways _ x y)))
+            let z = eqb-false _ _ e in
+            rest (with_state k.memory (Holding travel)) refl refl refl (λ q. ready q refl)
+            (record { from = r.from; leg = r.leg; journey = now; leg_is = on_it; busy = omega arith; aims = r.aims; over = refl; slows = omega (arith, soon) })
+            (λ x y. absurd (both_ways _ x y)))
 
       holds_in : (st : State) → k.memory.state ≡ st → Moving st t k.memory.table k.drive.place k.profile → runs st ≡ true → MatchBool (runs st) (Braked k.profile p) (p ≡ k.profile)
           → G (Ok tt) (held st k p)
@@ -272,7 +269,7 @@ module _ (g : ℕ) (k : AxisMeans) (t : Trace) (w : ℕ) (words : List ℤ) (b :
           let leg : Leg = record { way = direction_of b; plan = blend_plan k.memory.table (rates_of b) } in
           let to : ℤ = k.drive.place +ℤ signed (direction_of b) (plan_steps leg.plan) in
           let same : blend a b ≡ Moves to (record { legs = leg ∷ []; pause = 0 }) =
-            ap (λ rs. Moves (k.drive.place +ℤ signed (direction_of b) (steps_of (map row_of rs))) (record { legs = record { way = direction_of b; plan = plan_in k.memory.table.start b (map row_of rs) } ∷ []; pause = 0 })) tb_is in
+          ap (λ rs. Moves (k.drive.place +ℤ signed (direction_of b) (steps_of (map row_of rs))) (record { legs = record { way = direction_of b; plan = plan_in k.memory.table.start b (map row_of rs) } ∷ []; pause = 0 })) tb_is in
           move_good g k t w c ws to leg [] (leg ∷ []) 0 Blend p h refl refl refl tt refl begun s (effect_is ∙ (ef ∙ same)) (rows_are ∙ ro) keeps refl refl tt
 
       dwells : command_effect a co b ≡ dwell a b → 0 < length k.memory.table.rows → Begun k.profile (row_plan k.memory.table (rates_of b) 0) p
@@ -285,7 +282,7 @@ module _ (g : ℕ) (k : AxisMeans) (t : Trace) (w : ℕ) (words : List ℤ) (b :
           let to : ℤ = k.drive.place +ℤ sum_of tb.rows in
           let is_legs : legs ≡ leg ∷ ls = legs_next tb (run_of b) 0 some in
           let same : dwell a b ≡ Moves to (record { legs = legs; pause = nat_abs b.dwell }) =
-            ap (λ rs. Moves (k.drive.place +ℤ sum_of rs) (record { legs = map (row_leg tb.start b) rs; pause = nat_abs b.dwell })) tb_is in
+          ap (λ rs. Moves (k.drive.place +ℤ sum_of rs) (record { legs = map (row_leg tb.start b) rs; pause = nat_abs b.dwell })) tb_is in
           let ends = ap (legs_end k.drive.place) (sym is_legs) ∙ rows_end tb.start b k.drive.place tb.rows in
           move_good g k t w c ws to leg ls legs (nat_abs b.dwell) (Dwell (record { run = run_of b; index = 0 })) p h is_legs refl refl tt ends begun s
           (effect_is ∙ (ef ∙ same)) (rows_are ∙ ro) keeps refl refl tt
@@ -331,8 +328,10 @@ module _ (g : ℕ) (k : AxisMeans) (t : Trace) (w : ℕ) (words : List ℤ) (b :
     where
       ready : k.memory.table.ready ≡ true
       ready = (and_parts (not k.memory.flags.configuration) k.memory.table.ready (and_parts (rests k.memory.state) _ al).1).1
+
       rows : t.rows ≡ k.memory.table.rows
       rows = h.rows (or_right _ _ ready)
+
       on : (x : Bool) → is_dwell_of b ≡ x → cond x (dwell_judged k b) (blend_judged k b) ≡ Ok o → G (Ok tt) (carried k o p)
       on true f r =
           let q = dwell_is g k b o r in

@@ -1,19 +1,17 @@
 -- What a call does besides ticks: by what it does to the motion.
-use Rattle.std.proofs.Common.{◌≡◌, ℕ, ◌+◌, ◌≤◌, Bool, true, false, cond, ◌||◌, List, [], ℤ, pos, nat_abs, Some, None, Option, refl, sym, ap, ◌∙◌, subst, arith}
-use Rattle.std.proofs.lemmas.Bool.{both_ways, or_right, false≢true}
-use Rattle.drive.specs.Drives.{DriveMeans}
+use Rattle.std.proofs.Common.{◌≡◌, ℕ, ◌≤◌, true, ◌||◌, List, ℤ, nat_abs, refl, sym, ap, ◌∙◌, subst, arith}
+use Rattle.std.proofs.lemmas.Bool.{false≢true}
 use Rattle.profile.specs.Profiles.{ProfileMeans, up_div, fastest}
-use Rattle.table.specs.Tables.{TableMeans, emptied}
+use Rattle.table.specs.Tables.{TableMeans}
 use Rattle.table.specs.declared.segment.Segment.{Segment}
 use Rattle.axis.specs.Axes.{AxisMeans}
 use Rattle.axis.specs.Judging.{programs}
-use Rattle.axis.specs.Memories.{MemoryMeans}
 use Rattle.axis.specs.Stops.{table_stopped}
 use Rattle.axis.specs.declared.state.State.{State}
 use Rattle.axis.specs.declared.state.State.TheVariants.{Idle, Programming, Running, Pausing, Holding, Held}
-use Rattle.law.proofs.Facts.{plain, Trace, told, trace_of, IsResting, Moving, Programmed, Holds}
+use Rattle.law.proofs.Facts.{plain, Trace, IsResting, Holds}
 use Rattle.law.proofs.Goods.{Good}
-use Rattle.law.specs.Accounts.{Account, Effect, Moves, Holds as HoldsEffect, Stops, Presets, Ticks, Nothing, ordered, kept_after, levels_after, start_after, rows_after, accepted_effect, account_after, counted_by, sent_by, journey_by, underway_by, resting_by}
+use Rattle.law.specs.Accounts.{Account, Effect, Stops, ordered, kept_after, levels_after, start_after, rows_after, accepted_effect, counted_by, sent_by, journey_by, underway_by, resting_by}
 use Rattle.law.specs.Calls.{Call, Answer, accepted, steps_in}
 use Rattle.law.specs.Law.{CallLaw, Clears, Arrives}
 use Rattle.law.specs.Moments.{View}
@@ -43,7 +41,7 @@ good_by {g} {a} {c} {r} {ws} {m'} e rows ef ro ct ke le st ho sl ca cl ar =
       levels = le;
       start = st;
       holds = subst (λ x. Holds m' (trace_by a x (rows_after a.rows (ordered a.kept c (accepted r))) (steps_in r) (plain m'))) (sym ef)
-        (subst (λ x. Holds m' (trace_by a e x (steps_in r) (plain m'))) (sym ro) ho);
+          (subst (λ x. Holds m' (trace_by a e x (steps_in r) (plain m'))) (sym ro) ho);
       slow = sl;
       call = ca;
       clears = subst (λ x. Clears x (plain m')) (sym ef) cl;

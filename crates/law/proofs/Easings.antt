@@ -1,18 +1,16 @@
 -- A tick while a hold brakes, and ticks in every state.
-use Rattle.std.proofs.Common.{◌≡◌, ℕ, zero, suc, List, ◌+◌, ◌-◌, ◌<◌, ◌≤◌, Bool, true, false, cond, ◌||◌, eqb, length, ℤ, pos, ◌+ℤ◌, ◌-ℤ◌, nat_abs, Some, None, Option, MatchBool, refl, sym, ap, ◌∙◌, subst, arith}
+use Rattle.std.proofs.Common.{◌≡◌, ℕ, suc, List, ◌+◌, ◌-◌, ◌≤◌, Bool, true, false, cond, eqb, ℤ, pos, ◌+ℤ◌, nat_abs, Some, None, Option, MatchBool, refl, sym, ap, ◌∙◌, subst, arith}
 use Rattle.std.proofs.lemmas.Bool.{cond_both, eqb-true, eqb-false, both_ways, or_right}
-use Rattle.std.proofs.lemmas.Bool.Decides.{when_true, when_false}
+use Rattle.std.proofs.lemmas.Bool.Decides.{when_true}
 use Rattle.std.proofs.lemmas.Int.{ints}
 use Rattle.drive.specs.Drives.{DriveMeans}
 use Rattle.drive.specs.Positions.{distance}
-use Rattle.drive.specs.declared.direction.Direction.{Direction}
 use Rattle.profile.specs.Plans.{PlanMeans}
 use Rattle.profile.specs.Profiles.{ProfileMeans, Sound}
 use Rattle.table.specs.TablePlans.{row_plan}
 use Rattle.table.specs.Tables.{TableMeans}
 use Rattle.axis.specs.Axes.{AxisMeans, with_memory}
 use Rattle.axis.specs.Carrying.{began, row_travel}
-use Rattle.axis.specs.Judging.{programs}
 use Rattle.axis.specs.Memories.{MemoryMeans, with_state}
 use Rattle.axis.specs.Stops.{stopped, completed, rested, eased}
 use Rattle.axis.specs.Ticks.{due, takes_all, sent_to, steps_sent, moved, moved_on, is_plan, row_steps, row_begun, OneTick, FirstTick, tick_steps, tick_after, TickUses}
@@ -24,13 +22,13 @@ use Rattle.axis.specs.declared.state.State.TheVariants.{Idle, Programming, Runni
 use Rattle.axis.specs.declared.state.Travel.{Travel}
 use Rattle.unrefused.proofs.RowFits.{row_lawful}
 use Rattle.unrefused.specs.Fits.{Underway, UnrefusedIn, Fit}
-use Rattle.law.proofs.Facts.{plain, Trace, told, trace_of, Aims, Rests, AtRest, OnLeg, IsPausing, IsHolding, IsResting, Moving, Programmed, Holds}
+use Rattle.law.proofs.Facts.{plain, Trace, told, trace_of, Aims, Rests, AtRest, OnLeg, IsPausing, IsHolding, IsResting, Moving, Programmed}
 use Rattle.law.proofs.Goods.{Good}
 use Rattle.law.proofs.Legs.{takes_it}
 use Rattle.law.proofs.Ticks.{stands, still_on, is_due, is_slow, one_less, one_more_none, run_tick, row_tick, wait_tick, rest_tick}
 use Rattle.law.specs.Accounts.{Rest, account_after, one_more, sending}
 use Rattle.law.specs.Calls.{Tick, Sent}
-use Rattle.law.specs.Journeys.{Leg, Journey, held, ticked, fresh, due_in}
+use Rattle.law.specs.Journeys.{held, ticked, due_in}
 use Rattle.law.specs.Law.{TravelsOn, Takes, Arrives}
 
 slowed_next : (s : Option Rest) (n : ℤ) (a b : ℕ) → suc a ≤ b → Rests s b → Rests (sending s n) a
@@ -114,25 +112,25 @@ module _ (g : ℕ) (m : AxisMeans) (t : Trace) (travel : Travel) (p : ProfileMea
       cond_both (eqb p.left 0) _ _ P
       (λ e. rests travel.kind h.aims)
       (λ e.
-        let left = eqb-false _ _ e in
-        good (with_state k (Holding travel)) refl refl refl rows
-        (record {
-          from = h.from;
-          leg = h.leg;
-          journey = journey _;
-          leg_is = there;
-          busy = omega arith;
-          aims = h.aims;
-          over = one_more_none _ t.underway h.over;
-          slows = slowed_next t.resting n p.left m.profile.left (omega (arith, one)) h.slows;
-        })
-        not_set)
+      let left = eqb-false _ _ e in
+      good (with_state k (Holding travel)) refl refl refl rows
+      (record {
+        from = h.from;
+        leg = h.leg;
+        journey = journey _;
+        leg_is = there;
+        busy = omega arith;
+        aims = h.aims;
+        over = one_more_none _ t.underway h.over;
+        slows = slowed_next t.resting n p.left m.profile.left (omega (arith, one)) h.slows;
+      })
+      not_set)
 
   pub hold_tick : Good g (told m t) Tick (Sent (steps_sent g m travel.direction m.profile.gone p)) ws (moved_on g (Holding travel) m travel.direction m.profile.gone p)
   hold_tick =
       subst
       (λ z. Good g (told m t) Tick (Sent (cond z n (pos 0))) ws
-        (with_memory (moved g m travel.direction m.profile.gone p) (cond z (eased k (eqb p.left 0) d'.place travel) (stopped k))))
+      (with_memory (moved g m travel.direction m.profile.gone p) (cond z (eased k (eqb p.left 0) d'.place travel) (stopped k))))
       (sym taken) eases
 
 -- a tick in a pause
@@ -146,17 +144,20 @@ pause_tick g m t next ticks p ws f u h rows uses taken s = on (eqb ticks 0) refl
   where
     plan : PlanMeans
     plan = row_plan m.memory.table next.run.rates next.index
+
     travel : Travel
     travel = row_travel m.memory.table next
+
     first : ticks ≡ 0 → (is_plan plan ≡ true) × (takes_all g m.drive (due travel.direction 0 p) ≡ true) → MatchBool (is_plan plan) (FirstTick m.profile plan p) (p ≡ m.profile)
         → Good g (told m t) Tick (Sent (row_steps g m next p)) ws (row_begun g m next p)
     first z q w =
         subst
         (λ b. Good g (told m t) Tick (Sent (cond b (steps_sent g m travel.direction 0 p) (pos 0))) ws
-          (cond b (moved_on g (Running travel) (began m travel p) travel.direction 0 p) (with_memory m (stopped m.memory))))
+        (cond b (moved_on g (Running travel) (began m travel p) travel.direction 0 p) (with_memory m (stopped m.memory))))
         (sym q.0)
         (row_tick g m t next p ws (subst (λ n. IsPausing t m.memory.table m.drive.place m.profile next n) z h) rows u.within
-          (row_lawful g m.drive m.memory.table next f.table u) (when_true _ _ q.0 w) s q.1)
+        (row_lawful g m.drive m.memory.table next f.table u) (when_true _ _ q.0 w) s q.1)
+
     on : (b : Bool) → eqb ticks 0 ≡ b → MatchBool b (MatchBool (is_plan plan) (FirstTick m.profile plan p) (p ≡ m.profile)) (p ≡ m.profile)
         → MatchBool b ((is_plan plan ≡ true) × (takes_all g m.drive (due travel.direction 0 p) ≡ true)) (Unit {0})
         → Good g (told m t) Tick (Sent (cond b (row_steps g m next p) (pos 0))) ws (cond b (row_begun g m next p) (with_memory m (with_state m.memory (Pausing next (ticks - 1)))))

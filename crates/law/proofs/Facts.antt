@@ -1,7 +1,5 @@
 -- What holds between the account of a run and the axis that the run leads to.
-use Rattle.std.proofs.Common.{◌≡◌, ℕ, ◌+◌, ◌*◌, ◌<◌, ◌≤◌, Bool, true, false, cond, ◌||◌, List, [], ◌∷◌, map, drop, ℤ, Some, None, Option, refl, sym, ap, ◌∙◌, subst, arith}
-use Rattle.drive.specs.Drives.{DriveMeans}
-use Rattle.drive.specs.Positions.{is_position}
+use Rattle.std.proofs.Common.{◌≡◌, ℕ, ◌+◌, ◌*◌, ◌<◌, ◌≤◌, Bool, true, false, cond, ◌||◌, List, [], ◌∷◌, map, drop, ℤ, Some, None, Option, refl}
 use Rattle.drive.specs.declared.direction.Direction.{Direction}
 use Rattle.profile.specs.Plans.{plan_steps}
 use Rattle.profile.specs.Profiles.{ProfileMeans, plan_ticks}
@@ -17,7 +15,6 @@ use Rattle.axis.specs.declared.state.Kind.{Kind}
 use Rattle.axis.specs.declared.state.Kind.TheVariants.{Single, Blend, Dwell}
 use Rattle.axis.specs.declared.state.State.{State}
 use Rattle.axis.specs.declared.state.State.TheVariants.{Idle, Programming, Running, Pausing, Holding, Held}
-use Rattle.axis.specs.declared.state.Travel.{Travel}
 use Rattle.law.specs.Accounts.{Account, Timing, Rest}
 use Rattle.law.specs.Journeys.{Leg, Journey, none, on, waiting, held, along, leg_end, later_ticks}
 use Rattle.law.specs.Moments.{View}

@@ -1,24 +1,22 @@
 -- A moment after which the account is still that of the axis, and which keeps the law.
-use Rattle.std.proofs.Common.{◌≡◌, ℕ, ◌+◌, ◌*◌, ◌<◌, ◌≤◌, Bool, true, false, cond, ◌||◌, List, [], ◌∷◌, map, drop, ℤ, Some, None, Option, refl, sym, ap, ◌∙◌, subst, arith, nat_abs, ◌-◌, length, leb}
-use Rattle.std.proofs.lemmas.Bool.{eq-eqb, and_parts, leb-true}
+use Rattle.std.proofs.Common.{◌≡◌, ℕ, ◌<◌, ◌≤◌, List, ◌∷◌, ℤ, Some, None, Option, refl, sym, ◌∙◌, subst, arith, nat_abs}
+use Rattle.std.proofs.lemmas.Bool.{eq-eqb}
 use Rattle.unrefused.specs.Fits.{TableFits, InPause, Underway, Fit}
 use Rattle.unrefused.proofs.RowFits.{row_lawful}
 use Rattle.axis.specs.declared.order.DwellRow.{DwellRow}
 use Rattle.drive.specs.Drives.{DriveMeans}
-use Rattle.profile.specs.Plans.{PlanMeans, Lawful, plan_steps}
-use Rattle.profile.specs.Profiles.{ProfileMeans, Sound, plan_ticks, up_div, fastest}
-use Rattle.profile.specs.Rows.{steps_of, are_rows, is_row}
-use Rattle.profile.specs.declared.row.Row.{Row}
+use Rattle.profile.specs.Plans.{Lawful}
+use Rattle.profile.specs.Profiles.{ProfileMeans, up_div, fastest}
 use Rattle.table.specs.Tables.{TableMeans}
 use Rattle.axis.specs.Axes.{AxisMeans}
 use Rattle.axis.specs.declared.state.State.{State}
 use Rattle.axis.specs.declared.state.State.TheVariants.{Idle, Programming, Running, Pausing, Holding, Held}
-use Rattle.law.proofs.Facts.{plain, Trace, told, trace_of, Timed, Rests, AtRest, OnLeg, IsPausing, Moving, Holds}
+use Rattle.law.proofs.Facts.{plain, Trace, told, trace_of, Timed, Rests, AtRest, IsPausing, Moving, Holds}
 use Rattle.law.proofs.Legs.{plan_takes, legs_next}
-use Rattle.law.specs.Accounts.{Account, Timing, Rest, account_after, accepted_effect, is_over}
+use Rattle.law.specs.Accounts.{Account, Timing, Rest, account_after, accepted_effect}
 use Rattle.law.specs.Calls.{Call, Answer, steps_in}
-use Rattle.law.specs.Journeys.{Leg, Journey, none, on, waiting, held, along, leg_end, later_ticks}
-use Rattle.law.specs.Law.{Along, Travels, CallLaw, Clears, InTime, Arrives, Slow, Law}
+use Rattle.law.specs.Journeys.{Journey, none, on, waiting, held}
+use Rattle.law.specs.Law.{Travels, CallLaw, Clears, InTime, Arrives, Slow, Law}
 use Rattle.law.specs.Moments.{View}
 
 -- after a moment that leaves m', where a was told before it

@@ -1,6 +1,6 @@
 -- Set-ups, events and readings.
-use Rattle.std.proofs.Common.{◌≡◌, ℕ, ◌+◌, ◌*◌, ◌≤◌, Bool, true, false, cond, not, ◌||◌, List, [], ℤ, pos, nat_abs, Some, None, Ok, Err, Option, Result, refl, sym, ap, ◌∙◌, subst, arith}
-use Rattle.std.proofs.lemmas.Bool.{both_ways, or_right, false≢true, true≢false, cond_both}
+use Rattle.std.proofs.Common.{◌≡◌, ℕ, Bool, true, false, cond, not, ◌||◌, List, ℤ, pos, nat_abs, Ok, Err, Result, refl, sym, ap, ◌∙◌, subst, arith}
+use Rattle.std.proofs.lemmas.Bool.{both_ways, false≢true, true≢false}
 use Rattle.drive.specs.Drives.{DriveMeans, with_trip}
 use Rattle.drive.specs.declared.direction.Direction.{Direction}
 use Rattle.drive.specs.declared.direction.Direction.TheVariants.{Cw, Ccw}
@@ -13,21 +13,20 @@ use Rattle.block.specs.declared.refusal.Refusal.TheVariants as refusal
 use Rattle.table.specs.Courses.{is_clear}
 use Rattle.table.specs.Tables.{TableMeans, emptied}
 use Rattle.axis.specs.Axes.{AxisMeans, with_memory}
-use Rattle.axis.specs.EventCalls.{travels, with_level, with_estop, limited, event_after, answer_of, after_of}
+use Rattle.axis.specs.EventCalls.{travels, with_level, with_estop, limited, answer_of, after_of}
 use Rattle.axis.specs.Judging.{programs}
 use Rattle.axis.specs.Memories.{MemoryMeans, with_flags, with_levels, with_input}
 use Rattle.axis.specs.Readings.{reading_answer, read_into, status_words}
 use Rattle.axis.specs.Setups.{is_idle, start_fits, configured, misconfigured, setup_answer, setup_after}
-use Rattle.axis.specs.Stops.{stopped, table_stopped, halted_by_input}
+use Rattle.axis.specs.Stops.{stopped, halted_by_input}
 use Rattle.axis.specs.declared.flags.Levels.{Levels}
 use Rattle.axis.specs.declared.state.State.{State}
 use Rattle.axis.specs.declared.state.State.TheVariants.{Idle, Programming, Running, Pausing, Holding, Held}
 use Rattle.law.proofs.Changes.{trace_by, good_by, stopped_rows, stopped_start, stopped_rests}
-use Rattle.law.proofs.Facts.{plain, Trace, told, unmoved, rests_still, moves_still, IsResting, Moving, Programmed, Holds}
+use Rattle.law.proofs.Facts.{plain, Trace, told, unmoved, rests_still, moves_still, IsResting, Moving, Holds}
 use Rattle.law.proofs.Goods.{Good}
 use Rattle.law.specs.Accounts.{Account, Stops, Nothing, comes_on, event_effect, levels_by}
-use Rattle.law.specs.Calls.{Call, SetUp, Event as EventCall, Reading, Answer, Replied, Read}
-use Rattle.law.specs.Journeys.{none}
+use Rattle.law.specs.Calls.{SetUp, Event as EventCall, Reading, Replied, Read}
 
 -- ---- set-ups
 
@@ -66,15 +65,17 @@ setup_good g m t n ws h = on (is_idle m.memory.state) refl (start_fits g n)
   where
     k : MemoryMeans
     k = m.memory
+
     empties : (x : MemoryMeans) (S : ℕ) → is_idle k.state ≡ true → x.state ≡ k.state → x.table ≡ emptied S → x.flags.complete ≡ k.flags.complete
         → Holds (with_memory m x) (unmoved t x.flags.complete)
     empties x S e s tb c =
         record {
           rows = λ r. absurd (both_ways _ (ap (λ z. programs z || x.table.ready) s ∙ (ap (λ (z : TableMeans). programs k.state || z.ready) tb ∙ idle_programs k.state e)) r);
           moving = subst (λ z. Moving z (unmoved t x.flags.complete) x.table m.drive.place m.profile) (sym s)
-            (rests_idle k.state (unmoved t x.flags.complete) x.table m.drive.place m.profile e
+              (rests_idle k.state (unmoved t x.flags.complete) x.table m.drive.place m.profile e
               (rests_still x.flags.complete t m.drive.place m.profile (idle_rests k.state t k.table m.drive.place m.profile e h.moving)));
         }
+
     on : (b : Bool) → is_idle k.state ≡ b → (c : Bool)
         → Good g (told m t) (SetUp n) (Replied (cond b (cond c (Ok tt) (Err refusal.StartSpeed)) (Err refusal.State))) ws (with_memory m (cond b (cond c (configured k (nat_abs n)) (misconfigured k)) k))
     on true e true = good_by Nothing t.rows refl refl refl refl refl refl (empties (configured k (nat_abs n)) (nat_abs n) e refl refl refl) (omega arith) tt tt (λ x y. absurd (both_ways _ x y))
@@ -148,6 +149,7 @@ module _ (g : ℕ) (m : AxisMeans) (t : Trace) (n : ℤ) (ws : List ℤ) (h : Ho
     where
       x : MemoryMeans
       x = with_levels k (with_level k.levels way true)
+
       on : (b : Bool) → travels k.state ≡ b → G (Ok (event.Limit way true)) (with_memory m (cond b (halted_by_input x) x))
       on true e = stops (event.Limit way true) f c m.drive refl (with_flags x (with_input x.flags true)) refl refl refl refl refl
       on false e =

@@ -1,6 +1,5 @@
 -- Every run from power-up is lawful.
-use Rattle.std.proofs.Common.{◌≡◌, ℕ, ◌≤◌, true, List, [], ◌∷◌, ℤ, refl, sym, ap, ◌∙◌, subst, arith}
-use Rattle.drive.specs.Drives.{DriveMeans}
+use Rattle.std.proofs.Common.{◌≡◌, ℕ, true, List, [], ◌∷◌, refl, sym, ap, ◌∙◌, subst}
 use Rattle.drive.specs.Positions.{is_position}
 use Rattle.block.specs.Events.{event_of}
 use Rattle.block.specs.Frames.{block_of}
@@ -18,8 +17,8 @@ use Rattle.law.proofs.Views.{view_is}
 use Rattle.law.specs.Accounts.{Account, first_account, account_after}
 use Rattle.law.specs.Calls.{Call, SetUp, Block, Event, Tick, Reading, Answer}
 use Rattle.law.specs.Law.{Law, Lawful}
-use Rattle.law.specs.Moments.{Seen, Moment, View, view_of}
-use Rattle.law.specs.Runs.{answer_to, axis_after, CallUses, seen_of, Step, Run, none, more, RunsAreLawful}
+use Rattle.law.specs.Moments.{Seen, Moment, view_of}
+use Rattle.law.specs.Runs.{answer_to, axis_after, CallUses, seen_of, Step, Run, more, RunsAreLawful}
 
 module _ (g : ℕ) (all : TakesAll g) where
   -- one call

@@ -1,15 +1,12 @@
 -- Legs, and the steps of a tick along one.
-use Rattle.std.proofs.Common.{◌≡◌, ℕ, zero, suc, ◌+◌, ◌-◌, ◌*◌, ◌/◌, ◌<◌, ◌≤◌, Bool, true, false, cond, ◌||◌, eqb, ltb, leb, List, [], ◌∷◌, map, drop, length, get_or, ℤ, pos, ◌+ℤ◌, nat_abs, Some, None, Ok, Err, is_ok, Result, MatchBool, refl, sym, ap, ◌∙◌, subst, arith}
-use Rattle.std.proofs.lemmas.Bool.{cond_both, eqb-true, and_parts, leb-true}
+use Rattle.std.proofs.Common.{◌≡◌, ℕ, ◌+◌, ◌-◌, ◌*◌, ◌/◌, ◌<◌, ◌≤◌, Bool, true, false, cond, ◌||◌, eqb, leb, List, [], ◌∷◌, map, length, ℤ, ◌+ℤ◌, nat_abs, Ok, Err, is_ok, MatchBool, refl, sym, ap, ◌∙◌, arith}
+use Rattle.std.proofs.lemmas.Bool.{eqb-true, and_parts, leb-true}
 use Rattle.std.proofs.lemmas.Int.{ints}
 use Rattle.std.proofs.lemmas.List.{drop_more, drop_all}
-use Rattle.drive.proofs.Landings.{signed_stays, signed_joins, nat_abs_signed}
-use Rattle.drive.specs.Directions.{signed}
 use Rattle.drive.specs.Drives.{DriveMeans, landing, landed}
-use Rattle.drive.specs.declared.direction.Direction.{Direction}
 use Rattle.drive.specs.declared.fault.DriveFault.{DriveFault}
 use Rattle.profile.specs.Plans.{PlanMeans, Lawful, plan_steps}
-use Rattle.profile.specs.Profiles.{ProfileMeans, Sound, Ticked, plan_ticks, up_div, fastest}
+use Rattle.profile.specs.Profiles.{plan_ticks, up_div}
 use Rattle.profile.specs.Rows.{steps_of, are_rows, is_row}
 use Rattle.profile.specs.UpDivs.{up_div_pos}
 use Rattle.profile.specs.declared.row.Row.{Row}
@@ -18,7 +15,6 @@ use Rattle.table.specs.Tables.{TableMeans}
 use Rattle.axis.specs.Ticks.{takes_all, sent_to}
 use Rattle.axis.specs.declared.order.DwellRun.{DwellRun}
 use Rattle.law.proofs.Facts.{leg_of_row, legs_from}
-use Rattle.law.specs.Journeys.{Leg, leg_end}
 use Rattle.law.specs.Law.{Takes}
 
 -- a plan has at least one step

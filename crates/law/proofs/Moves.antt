@@ -1,31 +1,29 @@
 -- Accepted moves.
-use Rattle.std.proofs.Common.{◌≡◌, ℕ, zero, suc, ◌+◌, ◌-◌, ◌*◌, ◌/◌, ◌<◌, ◌≤◌, Bool, true, false, cond, ◌||◌, List, [], ◌∷◌, map, length, ℤ, pos, ◌+ℤ◌, nat_abs, Some, None, Ok, Option, Result, refl, sym, ap, ◌∙◌, subst, arith}
-use Rattle.std.proofs.lemmas.Bool.{both_ways, or_right, false≢true, cond_both}
+use Rattle.std.proofs.Common.{◌≡◌, ℕ, zero, suc, ◌+◌, ◌*◌, ◌<◌, ◌≤◌, true, List, [], ◌∷◌, map, ℤ, pos, ◌+ℤ◌, nat_abs, Some, Ok, refl, sym, ap, ◌∙◌, subst, arith}
+use Rattle.std.proofs.lemmas.Bool.{or_right, false≢true, cond_both}
 use Rattle.std.proofs.lemmas.Int.{ints}
 use lib.Signed.{lt_z}
 use Rattle.std.proofs.Math.IntN.{+ℤ_assoc}
 use Rattle.drive.proofs.Landings.{signed_stays, toward_reaches}
 use Rattle.drive.specs.Directions.{signed, toward}
 use Rattle.drive.specs.Positions.{distance}
-use Rattle.drive.specs.declared.direction.Direction.{Direction}
 use Rattle.drive.specs.declared.direction.Direction.TheVariants.{Cw, Ccw}
 use Rattle.profile.specs.Plans.{PlanMeans, Lawful, plan_steps}
-use Rattle.profile.specs.Profiles.{ProfileMeans, Sound, LawfulOf, Begun, plan_ticks, up_div, fastest}
+use Rattle.profile.specs.Profiles.{ProfileMeans, Sound, LawfulOf, Begun, plan_ticks}
 use Rattle.profile.specs.Rows.{steps_of}
 use Rattle.profile.specs.declared.row.Row.{Row}
-use Rattle.block.specs.Frames.{block_of, direction_of}
 use Rattle.block.specs.declared.frame.Block.{Block}
 use Rattle.table.specs.Segments.{row_of, way_of}
 use Rattle.table.specs.declared.segment.Segment.{Segment}
 use Rattle.axis.specs.Axes.{AxisMeans}
 use Rattle.axis.specs.Carrying.{began}
 use Rattle.axis.specs.declared.state.Kind.{Kind}
-use Rattle.law.proofs.Changes.{trace_by, good_by}
-use Rattle.law.proofs.Facts.{plain, Trace, told, legs_end, later, pause_of, Aims, Holds}
+use Rattle.law.proofs.Changes.{good_by}
+use Rattle.law.proofs.Facts.{plain, Trace, legs_end, later, pause_of, Aims, Holds}
 use Rattle.law.proofs.Goods.{Good}
 use Rattle.law.proofs.Legs.{some_steps}
 use Rattle.law.specs.Accounts.{Account, Moves, ordered, accepted_effect, kept_after, levels_after, start_after, rows_after, row_leg, sum_of}
-use Rattle.law.specs.Calls.{Call, Answer, Replied}
+use Rattle.law.specs.Calls.{Call, Replied}
 use Rattle.law.specs.Journeys.{Leg, on, leg_end, set_out, later_ticks, move_ticks}
 use Rattle.law.specs.Law.{CallLaw}
 
@@ -83,10 +81,10 @@ move_good g k t w c ws to leg ls legs pause kind p h is_legs is_later is_pause a
         aims = aims;
         ends = ap (legs_end (leg_end k.drive.place leg)) is_later ∙ ends;
         timed =
-          (let more : later_ticks p.lag (pause_of kind) (later k.memory.table kind) ≡ later_ticks p.lag pause ls = ap (λ x. later_ticks p.lag x (later k.memory.table kind)) is_pause ∙ ap (later_ticks p.lag pause) is_later in
-           let all : move_ticks p.lag pause legs ≡ plan_ticks leg.plan p.lag + later_ticks p.lag pause ls = ap (move_ticks p.lag pause) is_legs in
-           let soon : p.left ≤ plan_ticks leg.plan p.lag = rw lag b.soon in
-           omega (arith, more, all, soon));
+            (let more : later_ticks p.lag (pause_of kind) (later k.memory.table kind) ≡ later_ticks p.lag pause ls = ap (λ x. later_ticks p.lag x (later k.memory.table kind)) is_pause ∙ ap (later_ticks p.lag pause) is_later in
+            let all : move_ticks p.lag pause legs ≡ plan_ticks leg.plan p.lag + later_ticks p.lag pause ls = ap (move_ticks p.lag pause) is_legs in
+            let soon : p.left ≤ plan_ticks leg.plan p.lag = rw lag b.soon in
+            omega (arith, more, all, soon));
         free = refl;
       };
     })

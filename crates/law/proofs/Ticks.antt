@@ -1,5 +1,5 @@
 -- Ticks.
-use Rattle.std.proofs.Common.{◌≡◌, ℕ, zero, suc, ◌+◌, ◌-◌, ◌*◌, ◌/◌, ◌<◌, ◌≤◌, Bool, true, false, cond, ◌||◌, eqb, ltb, leb, List, [], ◌∷◌, map, drop, length, ℤ, pos, ◌+ℤ◌, nat_abs, Some, None, Option, MatchBool, refl, sym, ap, ◌∙◌, subst, arith}
+use Rattle.std.proofs.Common.{◌≡◌, ℕ, zero, suc, ◌+◌, ◌-◌, ◌*◌, ◌/◌, ◌<◌, ◌≤◌, Bool, true, false, cond, eqb, ltb, List, [], ◌∷◌, length, ℤ, pos, ◌+ℤ◌, nat_abs, Some, None, Option, MatchBool, refl, sym, ap, ◌∙◌, subst, arith}
 use Rattle.std.proofs.lemmas.Bool.{cond_both, eqb-true, eqb-false, ltb-true, ltb-false, both_ways, eq-eqb, ne_eqb, le-ltb, lt-ltb, false≢true}
 use Rattle.std.proofs.lemmas.Int.{ints}
 use Rattle.drive.proofs.Landings.{signed_stays, signed_joins, nat_abs_signed, signed_zero}
@@ -7,27 +7,24 @@ use Rattle.drive.specs.Directions.{signed}
 use Rattle.drive.specs.Drives.{DriveMeans}
 use Rattle.drive.specs.declared.direction.Direction.{Direction}
 use Rattle.profile.specs.Plans.{PlanMeans, Lawful, plan_steps}
-use Rattle.profile.specs.Profiles.{ProfileMeans, Sound, Begun, Ticked, plan_ticks, up_div, fastest}
+use Rattle.profile.specs.Profiles.{ProfileMeans, Sound, Ticked, plan_ticks, up_div, fastest}
 use Rattle.table.specs.TablePlans.{row_at, row_plan}
 use Rattle.table.specs.Tables.{TableMeans}
 use Rattle.axis.specs.Axes.{AxisMeans, with_memory}
-use Rattle.axis.specs.Judging.{programs}
 use Rattle.axis.specs.Memories.{MemoryMeans, with_state}
-use Rattle.axis.specs.Stops.{stopped, completed, rested, eased, row_after, ended, arrived}
+use Rattle.axis.specs.Stops.{stopped, completed, row_after, ended, arrived}
 use Rattle.axis.specs.Carrying.{began, row_travel}
 use Rattle.axis.specs.Ticks.{due, takes_all, sent_to, steps_sent, moved, moved_on, OneTick, FirstTick}
 use Rattle.axis.specs.declared.order.DwellRow.{DwellRow}
-use Rattle.axis.specs.declared.order.DwellRun.{DwellRun}
 use Rattle.axis.specs.declared.state.Kind.{Kind}
 use Rattle.axis.specs.declared.state.Kind.TheVariants.{Single, Blend, Dwell}
-use Rattle.axis.specs.declared.state.State.{State}
-use Rattle.axis.specs.declared.state.State.TheVariants.{Idle, Programming, Running, Pausing, Holding, Held}
+use Rattle.axis.specs.declared.state.State.TheVariants.{Running, Pausing}
 use Rattle.axis.specs.declared.state.Travel.{Travel}
-use Rattle.law.proofs.Facts.{plain, Trace, told, trace_of, leg_of_row, legs_from, legs_end, later, pause_of, Aims, Timed, Rests, AtRest, OnLeg, IsRunning, IsPausing, IsHolding, IsResting, Moving, Programmed, Holds}
+use Rattle.law.proofs.Facts.{plain, Trace, told, trace_of, leg_of_row, legs_from, legs_end, later, pause_of, Aims, Timed, Rests, AtRest, OnLeg, IsRunning, IsPausing, IsResting, Moving, Programmed}
 use Rattle.law.proofs.Goods.{Good}
 use Rattle.law.proofs.Legs.{some_steps, legs_next, legs_over, sent_there, takes_it, few}
-use Rattle.law.specs.Accounts.{Account, Timing, Rest, account_after, one_more, sending, is_over}
-use Rattle.law.specs.Calls.{Call, Tick, Answer, Sent}
+use Rattle.law.specs.Accounts.{Timing, Rest, account_after, one_more, sending, is_over}
+use Rattle.law.specs.Calls.{Tick, Sent}
 use Rattle.law.specs.Journeys.{Leg, Journey, none, on, waiting, held, along, leg_end, later_ticks, on_leg, ticked, fresh, due_in}
 use Rattle.law.specs.Law.{Along, TravelsOn, Arrives, Takes}
 use Rattle.law.specs.Moments.{View}
@@ -84,9 +81,6 @@ pub timed_next : (c : Bool) (u : Option Timing) (n k : ℕ) → suc n ≤ k → 
 timed_next true u n k l h = tt
 timed_next false None n k l h = tt
 timed_next false (Some t) n k l h = omega (arith, l, h)
-
-
-
 
 pub free_next : (s : Option Rest) (n : ℤ) → s ≡ None → sending s n ≡ None
 free_next None n e = refl
@@ -249,32 +243,32 @@ pub run_tick :
 run_tick g m t travel p ws h rows u s taken =
     let k = (moved g m travel.direction m.profile.gone p).memory in
     let o : OnTick g m t travel.direction travel.kind m.profile p k =
-      record {
-        r = u.advance;
-        ticks = u.ticked;
-        sound = s;
-        from = h.from;
-        leg = h.leg;
-        leg_is = h.leg_is;
-        asked = h.asked;
-        busy = h.busy;
-        aims = h.aims;
-        ends = h.ends;
-        timed = h.timed;
-        free = h.free;
-        travels = λ v a. subst (λ j. TravelsOn j v) (sym h.journey) a;
-        due_is = ap (λ j. due_in j m.profile.gone p.gone) h.journey;
-        goes = λ over. ap (ticked over) h.journey;
-        taken = taken;
-        kept_is = refl;
-        levels_are = refl;
-        start_is = refl;
-        rows = rows;
-        complete = λ e. e;
-      } in
+    record {
+      r = u.advance;
+      ticks = u.ticked;
+      sound = s;
+      from = h.from;
+      leg = h.leg;
+      leg_is = h.leg_is;
+      asked = h.asked;
+      busy = h.busy;
+      aims = h.aims;
+      ends = h.ends;
+      timed = h.timed;
+      free = h.free;
+      travels = λ v a. subst (λ j. TravelsOn j v) (sym h.journey) a;
+      due_is = ap (λ j. due_in j m.profile.gone p.gone) h.journey;
+      goes = λ over. ap (ticked over) h.journey;
+      taken = taken;
+      kept_is = refl;
+      levels_are = refl;
+      start_is = refl;
+      rows = rows;
+      complete = λ e. e;
+    } in
     subst
     (λ z. Good g (told m t) Tick (Sent (cond z (due travel.direction m.profile.gone p) (pos 0))) ws
-      (with_memory (moved g m travel.direction m.profile.gone p) (cond z (arrived k (eqb p.left 0) travel) (stopped k))))
+    (with_memory (moved g m travel.direction m.profile.gone p) (cond z (arrived k (eqb p.left 0) travel) (stopped k))))
     (sym taken) (leg_ticked g m t travel.direction travel.kind m.profile p k ws o)
 
 -- a plan that began goes on in the tick that follows
@@ -311,7 +305,7 @@ pub row_tick :
     → FirstTick m.profile (row_plan m.memory.table next.run.rates next.index) p → Sound p
     → takes_all g m.drive (due (row_travel m.memory.table next).direction 0 p) ≡ true
     → Good g (told m t) Tick (Sent (steps_sent g m (row_travel m.memory.table next).direction 0 p)) ws
-      (moved_on g (Running (row_travel m.memory.table next)) (began m (row_travel m.memory.table next) p) (row_travel m.memory.table next).direction 0 p)
+    (moved_on g (Running (row_travel m.memory.table next)) (began m (row_travel m.memory.table next) p) (row_travel m.memory.table next).direction 0 p)
 row_tick g m t next p ws h rows l lawful f s taken =
     let tb = m.memory.table in
     let travel = row_travel tb next in
@@ -320,7 +314,7 @@ row_tick g m t next p ws h rows l lawful f s taken =
     let legs = legs_from tb next.run (next.index + 1) in
     let parts = split h.leg leg h.legs legs (h.legs_are ∙ legs_next tb next.run next.index l) in
     let journey : t.journey ≡ waiting h.waited m.drive.place leg legs next.run.dwell =
-      h.journey ∙ (ap (λ x. waiting h.waited m.drive.place x h.legs next.run.dwell) parts.0 ∙ ap (λ xs. waiting h.waited m.drive.place leg xs next.run.dwell) parts.1) in
+    h.journey ∙ (ap (λ x. waiting h.waited m.drive.place x h.legs next.run.dwell) parts.0 ∙ ap (λ xs. waiting h.waited m.drive.place leg xs next.run.dwell) parts.1) in
     let b = f.begun in
     let asked : b.asked ≡ 1000 * plan_steps leg.plan = ap (λ (y : ProfileMeans). y.asked) f.begins.after in
     let gone : b.gone ≡ 0 = ap (λ (y : ProfileMeans). y.gone) f.begins.after in
@@ -329,40 +323,40 @@ row_tick g m t next p ws h rows l lawful f s taken =
     let busy : 0 < b.left = begun_busy b p f.ticks.advance leg.plan lawful asked gone f.ticks.ticked s in
     let k = (moved g (began m travel p) way b.gone p).memory in
     let time : Timed t.underway (0 + (plan_ticks leg.plan m.profile.lag + later_ticks m.profile.lag next.run.dwell legs)) =
-      subst (λ x. Timed t.underway (0 + (plan_ticks (x.0).plan m.profile.lag + later_ticks m.profile.lag next.run.dwell x.1))) (pair_same h.leg leg h.legs legs parts.0 parts.1) h.timed in
+    subst (λ x. Timed t.underway (0 + (plan_ticks (x.0).plan m.profile.lag + later_ticks m.profile.lag next.run.dwell x.1))) (pair_same h.leg leg h.legs legs parts.0 parts.1) h.timed in
     let soon : b.left + later_ticks b.lag next.run.dwell legs ≤ 0 + (plan_ticks leg.plan m.profile.lag + later_ticks m.profile.lag next.run.dwell legs) =
-      rw lag (omega (arith, f.begins.soon)) in
+    rw lag (omega (arith, f.begins.soon)) in
     let ends : legs_end (leg_end m.drive.place leg) legs ≡ t.sent_to = subst (λ x. legs_end (leg_end m.drive.place x.0) x.1 ≡ t.sent_to) (pair_same h.leg leg h.legs legs parts.0 parts.1) h.ends in
     let o : OnTick g m t way (Dwell next) b p k =
-      record {
-        r = f.ticks.advance;
-        ticks = f.ticks.ticked;
-        sound = s;
-        from = m.drive.place;
-        leg = leg;
-        leg_is = record { way_is = refl; plan_is = ap (λ (y : ProfileMeans). y.plan) f.begins.after; keeps_up = rw gone (sym (signed_stays way m.drive.place)) };
-        asked = asked;
-        busy = busy;
-        aims = tt;
-        ends = ends;
-        timed = timed_sooner t.underway _ _ soon time;
-        free = h.free;
-        travels = λ v a. subst (λ j. TravelsOn j v) (sym journey) (subst (λ z. MatchBool z ((is_over v ≡ true) × (v.position ≡ m.drive.place)) (Along m.drive.place leg v)) (sym waits) a);
-        due_is = ap (λ j. due_in j m.profile.gone p.gone) journey ∙ (ap (λ z. cond z (pos 0) (fresh leg 0 p.gone)) waits ∙ ap (λ z. fresh leg z p.gone) (sym gone));
-        goes = λ over. ap (ticked over) journey ∙ ap (λ z. cond z (waiting (suc h.waited) m.drive.place leg legs next.run.dwell) (on_leg over m.drive.place leg legs next.run.dwell)) waits;
-        taken = subst (λ z. takes_all g m.drive (due way z p) ≡ true) (sym gone) taken;
-        kept_is = refl;
-        levels_are = refl;
-        start_is = refl;
-        rows = rows;
-        complete = λ e. absurd (false≢true e);
-      } in
+    record {
+      r = f.ticks.advance;
+      ticks = f.ticks.ticked;
+      sound = s;
+      from = m.drive.place;
+      leg = leg;
+      leg_is = record { way_is = refl; plan_is = ap (λ (y : ProfileMeans). y.plan) f.begins.after; keeps_up = rw gone (sym (signed_stays way m.drive.place)) };
+      asked = asked;
+      busy = busy;
+      aims = tt;
+      ends = ends;
+      timed = timed_sooner t.underway _ _ soon time;
+      free = h.free;
+      travels = λ v a. subst (λ j. TravelsOn j v) (sym journey) (subst (λ z. MatchBool z ((is_over v ≡ true) × (v.position ≡ m.drive.place)) (Along m.drive.place leg v)) (sym waits) a);
+      due_is = ap (λ j. due_in j m.profile.gone p.gone) journey ∙ (ap (λ z. cond z (pos 0) (fresh leg 0 p.gone)) waits ∙ ap (λ z. fresh leg z p.gone) (sym gone));
+      goes = λ over. ap (ticked over) journey ∙ ap (λ z. cond z (waiting (suc h.waited) m.drive.place leg legs next.run.dwell) (on_leg over m.drive.place leg legs next.run.dwell)) waits;
+      taken = subst (λ z. takes_all g m.drive (due way z p) ≡ true) (sym gone) taken;
+      kept_is = refl;
+      levels_are = refl;
+      start_is = refl;
+      rows = rows;
+      complete = λ e. absurd (false≢true e);
+    } in
     let G : ℕ → Type 0 = λ z. Good g (told m t) Tick (Sent (steps_sent g m way z p)) ws (moved_on g (Running travel) (began m travel p) way z p) in
     subst G gone
     (subst
-      (λ z. Good g (told m t) Tick (Sent (cond z (due way b.gone p) (pos 0))) ws
-        (with_memory (moved g (began m travel p) way b.gone p) (cond z (arrived k (eqb p.left 0) travel) (stopped k))))
-      (sym o.taken) (leg_ticked g m t way (Dwell next) b p k ws o))
+    (λ z. Good g (told m t) Tick (Sent (cond z (due way b.gone p) (pos 0))) ws
+    (with_memory (moved g (began m travel p) way b.gone p) (cond z (arrived k (eqb p.left 0) travel) (stopped k))))
+    (sym o.taken) (leg_ticked g m t way (Dwell next) b p k ws o))
 
 -- a tick that a pause counts
 pub wait_tick :
@@ -373,9 +367,9 @@ pub wait_tick :
 wait_tick g m t next ticks ws h rows l =
     let waits : ltb h.waited next.run.dwell ≡ true = lt-ltb _ _ (omega (arith, h.counts)) in
     let over : (o : Bool) → ticked o t.journey ≡ waiting (suc h.waited) m.drive.place h.leg h.legs next.run.dwell =
-      λ o. ap (ticked o) h.journey ∙ ap (λ z. cond z (waiting (suc h.waited) m.drive.place h.leg h.legs next.run.dwell) (on_leg o m.drive.place h.leg h.legs next.run.dwell)) waits in
+    λ o. ap (ticked o) h.journey ∙ ap (λ z. cond z (waiting (suc h.waited) m.drive.place h.leg h.legs next.run.dwell) (on_leg o m.drive.place h.leg h.legs next.run.dwell)) waits in
     let due_is : due_in t.journey m.profile.gone m.profile.gone ≡ pos 0 =
-      ap (λ j. due_in j m.profile.gone m.profile.gone) h.journey ∙ ap (λ z. cond z (pos 0) (fresh h.leg 0 m.profile.gone)) waits in
+    ap (λ j. due_in j m.profile.gone m.profile.gone) h.journey ∙ ap (λ z. cond z (pos 0) (fresh h.leg 0 m.profile.gone)) waits in
     record {
       counted = plus_none m.drive.place;
       kept = refl;
@@ -445,7 +439,7 @@ still_resting t o c place p h =
 pub rest_tick :
     (g : ℕ) (m : AxisMeans) (t : Trace) (ws : List ℤ) → Programmed t m → IsResting t m.drive.place m.profile
     → (IsResting (trace_of (account_after (told m t) Tick (Sent (pos 0)) (plain m))) m.drive.place m.profile
-      → Moving m.memory.state (trace_of (account_after (told m t) Tick (Sent (pos 0)) (plain m))) m.memory.table m.drive.place m.profile)
+    → Moving m.memory.state (trace_of (account_after (told m t) Tick (Sent (pos 0)) (plain m))) m.memory.table m.drive.place m.profile)
     → Good g (told m t) Tick (Sent (pos 0)) ws m
 rest_tick g m t ws rows h moves =
     let due_is = at_rest_due t.journey m.drive.place m.profile h.journey in

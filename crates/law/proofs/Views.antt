@@ -1,10 +1,10 @@
 -- What the status words say.
-use Rattle.std.proofs.Common.{◌≡◌, true, ℤ, Bool, refl, ap₂}
+use Rattle.std.proofs.Common.{◌≡◌, true, ℤ, Bool, ap₂}
 use Rattle.drive.specs.Positions.{is_position}
 use Rattle.axis.proofs.Readings.{complete_read, position_read}
 use Rattle.axis.specs.Axes.{AxisMeans}
 use Rattle.law.proofs.Facts.{plain}
-use Rattle.law.specs.Moments.{View, view_of}
+use Rattle.law.specs.Moments.{view_of}
 use Rattle.law.specs.Runs.{seen_of}
 
 pub view_is : (m : AxisMeans) → is_position m.drive.place ≡ true → view_of (seen_of m) ≡ plain m

@@ -1,6 +1,6 @@
 -- What a run tells of itself: after each moment, by its call, its answer and what was to be seen, from what was told before. It is
 -- told of histories alone, and says nothing of how an axis works.
-use Rattle.std.specs.Prelude.{◌≡◌, ℕ, suc, Bool, true, false, cond, not, List, [], ◌∷◌, ◌++◌, map, ℤ, pos, ◌+ℤ◌, Some, None, Ok, Err, Option, Result, ◌==◌, unsigned_abs}
+use Rattle.std.specs.Prelude.{ℕ, suc, Bool, true, false, cond, not, List, [], ◌∷◌, ◌++◌, map, ℤ, pos, ◌+ℤ◌, Some, None, Ok, Err, Option, Result, ◌==◌, unsigned_abs}
 use Rattle.drive.specs.Directions.{signed, toward}
 use Rattle.drive.specs.Drives.{DriveMeans}
 use Rattle.drive.specs.Positions.{distance}
@@ -25,7 +25,7 @@ use Rattle.table.specs.declared.segment.Segment.{Segment}
 use Rattle.axis.specs.EventCalls.{with_level, with_estop}
 use Rattle.axis.specs.declared.flags.Levels.{Levels}
 use Rattle.law.specs.Calls.{Call, SetUp, Block as BlockCall, Event as EventCall, Tick, Reading, Answer, accepted, steps_in}
-use Rattle.law.specs.Moments.{Moment, View, view_of}
+use Rattle.law.specs.Moments.{View}
 use Rattle.law.specs.Journeys.{Leg, Route, Journey, none, set_out, ticked, braked, move_ticks}
 
 -- the ticks allowed to a move under way, and those passed

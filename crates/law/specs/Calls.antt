@@ -1,5 +1,5 @@
 -- The five calls as values, and what they answer.
-use Rattle.std.specs.Prelude.{Bool, true, false, List, ℤ, pos, is_ok, Result}
+use Rattle.std.specs.Prelude.{Bool, false, List, ℤ, pos, is_ok, Result}
 use Rattle.block.specs.declared.refusal.Refusal.{Refusal}
 
 pub data Call : Type 0 where

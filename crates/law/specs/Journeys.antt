@@ -1,10 +1,10 @@
 -- How far the latest move has come. A move travels legs, one after the other: a single move and a blend have one, a dwell move has
 -- one for each row, and a pause between two.
-use Rattle.std.specs.Prelude.{ℕ, suc, ◌+◌, ◌-◌, ◌/◌, Bool, true, false, cond, List, [], ◌∷◌, ℤ, pos, ◌+ℤ◌, ◌==◌, nat_lt}
+use Rattle.std.specs.Prelude.{ℕ, suc, ◌+◌, ◌-◌, ◌/◌, Bool, true, false, cond, List, [], ◌∷◌, ℤ, pos, ◌+ℤ◌, nat_lt}
 use Rattle.drive.specs.Directions.{signed}
 use Rattle.drive.specs.declared.direction.Direction.{Direction}
 use Rattle.profile.specs.Plans.{PlanMeans, plan_steps}
-use Rattle.profile.specs.Profiles.{ProfileMeans, plan_ticks}
+use Rattle.profile.specs.Profiles.{plan_ticks}
 
 -- a plan that is travelled in one direction
 pub record Leg : Type 0 where

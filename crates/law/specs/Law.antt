@@ -1,12 +1,12 @@
 -- The law of runs, said of the account of a run (Accounts) and of the moment that comes next. A drive goes at most g steps at once.
-use Rattle.std.specs.Prelude.{◌≡◌, ℕ, ◌<◌, ◌≤◌, Bool, true, false, cond, List, [], ◌∷◌, ◌++◌, drop, ℤ, Some, None, Ok, Option, Result, MatchBool, ◌==◌, nat_lt, unsigned_abs}
+use Rattle.std.specs.Prelude.{◌≡◌, ℕ, ◌<◌, ◌≤◌, true, false, cond, List, [], ◌∷◌, ◌++◌, drop, ℤ, Some, None, Ok, Option, MatchBool, ◌==◌, nat_lt, unsigned_abs}
 use Rattle.drive.specs.Drives.{DriveMeans, landing}
-use Rattle.profile.specs.Profiles.{ProfileMeans, fastest, up_div}
+use Rattle.profile.specs.Profiles.{fastest, up_div}
 use Rattle.axis.specs.Readings.{is_short, reading_answer}
 use Rattle.law.specs.Accounts.{Account, Timing, Rest, Effect, Moves, Holds, Stops, Presets, Ticks, Nothing, accepted_effect, account_after, is_over}
 use Rattle.law.specs.Calls.{Call, SetUp, Block, Event, Tick, Reading, Answer, Sent, Read, steps_in}
 use Rattle.law.specs.Journeys.{Leg, Journey, none, on, waiting, held, along, due_in}
-use Rattle.law.specs.Moments.{Seen, Moment, View, view_of}
+use Rattle.law.specs.Moments.{Moment, View, view_of}
 
 -- The profile has exactly the leg's plan, and the position is the leg's beginning plus, in the leg's direction, the whole steps of gone.
 abbrev pub Along : ℤ → Leg → View → Type 0

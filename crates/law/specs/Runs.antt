@@ -1,5 +1,5 @@
 -- Runs: moments that the contracts of the calls make of an axis, one after the other.
-use Rattle.std.specs.Prelude.{◌≡◌, ℕ, ◌≤◌, Bool, true, List, [], ◌∷◌, ℤ, Ok, Err, Result}
+use Rattle.std.specs.Prelude.{◌≡◌, ℕ, ◌≤◌, true, List, [], ◌∷◌}
 use Rattle.drive.specs.Drives.{DriveMeans}
 use Rattle.drive.specs.Positions.{is_position}
 use Rattle.profile.specs.Profiles.{ProfileMeans, Sound}
