@@ -1,5 +1,6 @@
 pub mod Accounts
 pub mod Calls
+pub mod Examples
 pub mod Journeys
 pub mod Law
 pub mod Moments

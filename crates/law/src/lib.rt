@@ -1,6 +1,8 @@
 // The law of runs: what holds of every sequence of calls, from power-up on.
 #![tactic(auto)]
 
+pub mod examples;
+
 ghost use Rattle.law.specs.Runs.{RunsAreLawful};
 
 // Whoever makes calls of an axis, in any order, has made a lawful run.
