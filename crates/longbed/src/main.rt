@@ -2,7 +2,10 @@
 // Where a line cannot be read nothing is called, and the program ends with status 1.
 #![tactic(auto)]
 
+mod list;
+mod operation;
 mod order;
+mod outcome;
 mod prepare;
 mod read;
 mod run;

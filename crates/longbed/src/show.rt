@@ -1,9 +1,15 @@
-// What the program prints of an axis.
-use axis::axis::Axis;
+// What the program prints of its calls.
+ghost use Rattle.std.specs.Prelude.{◌≡◌, drop, length, take};
+ghost use Rattle.longbed.specs.Callings.{calls_of};
+ghost use Rattle.script.specs.Readings.{line_means};
+
+use crate::outcome::End;
+use crate::read::Entry;
 use axis::flags::Flags;
-use beds::motor::Motor;
-use drive::traits::Drive;
-use profile::traits::Profile;
+use block::refusal::answer_number;
+use runs::call::Answer;
+use runs::entry::Entry as Note;
+use script::line::Line;
 use std::{fmt, io};
 use text::text::{Words, uncommented};
 
@@ -16,6 +22,78 @@ pub fn print_words(rt: &HostRuntime, text: &[u8]) -> io::Result<()> {
     for word in words {
         print!(rt; " ")?;
         rt.write_all(word)?;
+    }
+    Ok(())
+}
+
+// What a call answered, after a space: its number, its steps, or its number and the words of its buffer.
+#[derive(Clone, Copy)]
+struct Told<'a>(&'a Answer);
+
+impl fmt::Display for Told<'_> {
+    fn fmt<W: fmt::Write>(&self, f: &mut fmt::Formatter<W>) -> fmt::Result {
+        match self.0 {
+            Answer::Replied(answer) => write!(f, " {}", answer_number(*answer)),
+            Answer::Sent(steps) => write!(f, " {steps}"),
+            Answer::Read(answer, words) => {
+                write!(f, " {}", answer_number(*answer))?;
+                for word in words.iter() {
+                    write!(f, " {word}")?;
+                }
+                Ok(())
+            }
+        }
+    }
+}
+
+// How many calls a line makes.
+fn call_count(line: &Line) -> usize
+    ensures { result ≡ length (calls_of (line_means line.now)) }
+{
+    match line {
+        Line::Tick(count) => *count as usize,
+        Line::Setup(_) | Line::Block(_) | Line::Event(_) | Line::Reading(_) => 1,
+        Line::Blank | Line::Bed(_) | Line::At(_) | Line::Tripped => 0,
+    }
+}
+
+// Prints a line of calls with what they answered. A line that makes no call, as it is one of the bed, is not printed.
+fn print_calls(rt: &HostRuntime, entry: &Entry, notes: &[Note]) -> io::Result<()> {
+    match &entry.line {
+        Line::Setup(speed) => print!(rt; "setup {speed}:")?,
+        Line::Block(_) => {
+            print_words(rt, entry.text)?;
+            print!(rt; ":")?;
+        }
+        Line::Event(code) => print!(rt; "event {code}:")?,
+        Line::Tick(count) => print!(rt; "tick {count}:")?,
+        Line::Reading(size) => print!(rt; "reading {size}:")?,
+        Line::Blank | Line::Bed(_) | Line::At(_) | Line::Tripped => return Ok(()),
+    }
+    for note in notes {
+        print!(rt; "{}", Told(&note.answer))?;
+    }
+    println!(rt)
+}
+
+// The notes of a line's calls, as far as there are any, and those after them.
+fn split_notes<'a>(line: &Line, notes: &'a [Note]) -> (&'a [Note], &'a [Note])
+    ensures own { result.0.now ≡ take (length (calls_of (line_means line.now))) notes.now }
+    ensures after { result.1.now ≡ drop (length (calls_of (line_means line.now))) notes.now }
+{
+    notes.split_at(call_count(line).min(notes.len()))
+}
+
+// Prints the lines of a script with what their calls answered, as far as the journal goes.
+pub fn print_journal(rt: &HostRuntime, entries: &[Entry], journal: &[Note]) -> io::Result<()> {
+    let mut rest = journal;
+    for entry in entries {
+        let (notes, after) = split_notes(&entry.line, rest);
+        if notes.is_empty() && call_count(&entry.line) > 0 {
+            return Ok(());
+        }
+        print_calls(rt, entry, notes)?;
+        rest = after;
     }
     Ok(())
 }
@@ -46,13 +124,11 @@ impl fmt::Display for Names {
 }
 
 // How the axis stands at the end.
-pub fn print_end<D: Motor, P: Profile>(rt: &HostRuntime, axis: &Axis<D, P>) -> io::Result<()> {
-    let position = axis.position();
-    println!(rt; "= position {position}")?;
-    let place = axis.drive().place();
-    println!(rt; "= place {place}")?;
-    if let Some(coils) = axis.drive().coil_byte() {
+pub fn print_end(rt: &HostRuntime, end: &End) -> io::Result<()> {
+    println!(rt; "= position {}", end.position)?;
+    println!(rt; "= place {}", end.place)?;
+    if let Some(coils) = end.coils {
         println!(rt; "= coils {coils}")?;
     }
-    println!(rt; "= flags{}", Names(axis.flags()))
+    println!(rt; "= flags{}", Names(end.flags))
 }
