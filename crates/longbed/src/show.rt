@@ -84,15 +84,18 @@ fn split_notes<'a>(line: &Line, notes: &'a [Note]) -> (&'a [Note], &'a [Note])
     notes.split_at(call_count(line).min(notes.len()))
 }
 
-// Prints the lines of a script with what their calls answered, as far as the journal goes.
+// Prints the lines of a script with what their calls answered, up to the first call that is not in the journal.
 pub fn print_journal(rt: &HostRuntime, entries: &[Entry], journal: &[Note]) -> io::Result<()> {
     let mut rest = journal;
     for entry in entries {
         let (notes, after) = split_notes(&entry.line, rest);
-        if notes.is_empty() && call_count(&entry.line) > 0 {
+        let is_whole = notes.len() == call_count(&entry.line);
+        if is_whole || !notes.is_empty() {
+            print_calls(rt, entry, notes)?;
+        }
+        if !is_whole {
             return Ok(());
         }
-        print_calls(rt, entry, notes)?;
         rest = after;
     }
     Ok(())

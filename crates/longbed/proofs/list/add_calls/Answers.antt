@@ -1,4 +1,4 @@
-use Rattle.std.proofs.Common.{◌≡◌, ◌≤◌, ◌++◌, ◌∷◌, [], map, length, pos, subst, ap, ◌∙◌}
+use Rattle.std.proofs.Common.{◌≤◌, ◌++◌, ◌∷◌, [], map, length, pos, subst, ap, ◌∙◌}
 use Rattle.law.specs.Calls as law
 use Rattle.longbed.specs.Callings.{buffer_of}
 use Rattle.longbed.proofs.Listings.{one_more, same_first}
