@@ -246,7 +246,8 @@ class Axis:
             self.full_stop()
         elif command == "Preset":
             self.state = "Idle"
-            assert self.drive.set(pair(words[2], words[3]))
+            taken = self.drive.set(pair(words[2], words[3]))
+            assert taken
             self.flags["Position_Invalid"] = False
             self.flags["Move_Complete"] = False
             self.counted = pair(words[2], words[3])
@@ -405,7 +406,8 @@ class Axis:
         steps = direction * (self.profile.gone // 1000 - self.sent)
         if steps != 0:
             # promised: no advance is refused by the drive
-            assert self.drive.advance(steps), "the drive refused an advance"
+            taken = self.drive.advance(steps)
+            assert taken, "the drive refused an advance"
             self.sent += abs(steps)
         assert self.sent == self.profile.gone // 1000
         assert abs(steps) <= divided_up(self.profile.top, 1000)

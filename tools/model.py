@@ -34,6 +34,11 @@ class Planned:
     def top(self):
         return max([speed for _, speed in self.rows], default=0)
 
+    @property
+    def plan(self):
+        """The latest plan, or None before the first."""
+        return (self.start, self.accel, self.decel, tuple(self.rows)) if self.rows else None
+
     def left(self):
         trial, ticks = copy.copy(self), 0
         while trial.gone != trial.asked:
@@ -87,6 +92,10 @@ class Smoothed:
     @property
     def asked(self):
         return self.below.asked
+
+    @property
+    def plan(self):
+        return self.below.plan
 
     @property
     def start(self):
