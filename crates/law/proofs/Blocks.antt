@@ -36,7 +36,7 @@ use Rattle.axis.specs.declared.state.State.{State}
 use Rattle.axis.specs.declared.state.State.TheVariants.{Idle, Programming, Running, Pausing, Holding, Held}
 use Rattle.axis.specs.declared.state.Travel.{Travel}
 use Rattle.unrefused.specs.Fits.{Fit}
-use Rattle.law.proofs.Changes.{good_by, stopped_rows, stopped_start, stopped_rests}
+use Rattle.law.proofs.Changes.{stands_still, good_by, stopped_rows, stopped_start, stopped_rests}
 use Rattle.law.proofs.Easings.{no_distance}
 use Rattle.law.proofs.Facts.{plain, Trace, told, unmoved, rests_still, moves_still, legs_from, legs_end, AtRest, Aims, OnLeg, IsResting, IsRunning, Moving, Programmed, Holds}
 use Rattle.law.proofs.Goods.{Good}
@@ -45,6 +45,8 @@ use Rattle.law.proofs.Moves.{older, move_good, rows_end, single_ends}
 use Rattle.law.specs.Accounts.{Account, Moves, Holds as HoldsEffect, Stops, Presets, Nothing, ordered_by, ordered_in, kept_in, number_in, speed_in, segment_in, rows_by, rows_after, plan_in, single, blend, dwell, row_leg, sum_of, command_effect, block_effect}
 use Rattle.law.specs.Calls.{Call, Block as BlockCall, Replied}
 use Rattle.law.specs.Journeys.{Leg, Journey, none, held as held_on, braked}
+use Rattle.law.specs.Law.{Still, Travelling}
+use Rattle.law.proofs.Ticks.{over_is}
 
 -- at rest
 pub resting : (s : State) (t : Trace) (tb : TableMeans) (place : ℤ) (p : ProfileMeans) → rests s ≡ true → Moving s t tb place p → IsResting t place p
@@ -79,6 +81,14 @@ with_rows t b rows = record { rows = rows; sent_to = t.sent_to; journey = t.jour
 rests_with : (rows : List Segment) (b : Bool) (t : Trace) (place : ℤ) (p : ProfileMeans) → IsResting t place p → IsResting (with_rows t b rows) place p
 rests_with rows b t place p h = let r = rests_still b t place p h in record { journey = r.journey; over = r.over; slows = r.slows }
 
+held_rests : (s : State) (t : Trace) (tb : TableMeans) (place : ℤ) (p : ProfileMeans) (target : ℤ) → held_target s ≡ Some target → Moving s t tb place p → IsResting t place p
+held_rests Idle t tb place p target e h = let z : ◌≡◌ {A = Option ℤ} None (Some target) = e in cc
+held_rests Programming t tb place p target e h = let z : ◌≡◌ {A = Option ℤ} None (Some target) = e in cc
+held_rests (Running travel) t tb place p target e h = let z : ◌≡◌ {A = Option ℤ} None (Some target) = e in cc
+held_rests (Pausing next ticks) t tb place p target e h = let z : ◌≡◌ {A = Option ℤ} None (Some target) = e in cc
+held_rests (Holding travel) t tb place p target e h = let z : ◌≡◌ {A = Option ℤ} None (Some target) = e in cc
+held_rests (Held x) t tb place p target e h = h.0
+
 -- a held move's target is where it was sent
 held_there : (s : State) (t : Trace) (tb : TableMeans) (place : ℤ) (p : ProfileMeans) (target : ℤ) → held_target s ≡ Some target → Moving s t tb place p → target ≡ t.sent_to
 held_there Idle t tb place p target e h = let z : ◌≡◌ {A = Option ℤ} None (Some target) = e in cc
@@ -108,6 +118,13 @@ module _ (g : ℕ) (k : AxisMeans) (t : Trace) (w : ℕ) (words : List ℤ) (b :
   abbrev G : Result (Unit {0}) Refusal → AxisMeans → Type 0
   G r m' = Good g a c (Replied r) ws m'
 
+  -- at rest nothing moves, and no move is under way
+  at_rest : rests k.memory.state ≡ true → IsResting t k.drive.place k.profile
+  at_rest e = resting k.memory.state t k.memory.table k.drive.place k.profile e h.moving
+
+  stood : IsResting t k.drive.place k.profile → (t.underway ≡ None) × Still t.journey (plain k)
+  stood r = (r.over, stands_still t.journey (plain k) r.journey)
+
   keeps : kept_in w (block_of words) ≡ k.memory.kept
   keeps = ap (kept_in w) is ∙ kept_is
 
@@ -128,8 +145,8 @@ module _ (g : ℕ) (k : AxisMeans) (t : Trace) (w : ℕ) (words : List ℤ) (b :
   refuses why = on (is_limit why)
     where
       on : (l : Bool) → G (Err why) (with_memory k (with_flags k.memory (cond l (with_input (with_command k.memory.flags true) true) (with_command k.memory.flags true))))
-      on true = good_by Nothing t.rows refl refl refl keeps refl refl (still _ refl refl refl refl) (omega arith) tt tt (λ x y. absurd (both_ways _ x y))
-      on false = good_by Nothing t.rows refl refl refl keeps refl refl (still _ refl refl refl refl) (omega arith) tt tt (λ x y. absurd (both_ways _ x y))
+      on true = good_by Nothing t.rows refl refl refl keeps refl refl (still _ refl refl refl refl) (omega arith) tt tt (λ x y. absurd (both_ways _ x y)) tt
+      on false = good_by Nothing t.rows refl refl refl keeps refl refl (still _ refl refl refl refl) (omega arith) tt tt (λ x y. absurd (both_ways _ x y)) tt
 
   refuses_with : (why : Refusal) → p ≡ k.profile → G (Err why) (with_memory k (marked k.memory why))
   refuses_with why u = refuses why
@@ -138,7 +155,7 @@ module _ (g : ℕ) (k : AxisMeans) (t : Trace) (w : ℕ) (words : List ℤ) (b :
   orders_nothing : ordered_in w (Ok b) ≡ None → G (Ok tt) k
   orders_nothing e =
       good_by Nothing t.rows (ap (block_effect a) (ap (ordered_in w) is ∙ e)) (ap (rows_after t.rows) (ap (ordered_in w) is ∙ e)) refl keeps refl refl
-      (still k refl refl refl refl) (omega arith) tt tt (λ x y. absurd (both_ways _ x y))
+      (still k refl refl refl refl) (omega arith) tt tt (λ x y. absurd (both_ways _ x y)) tt
 
   orders_with : ordered_in w (Ok b) ≡ None → p ≡ k.profile → G (Ok tt) k
   orders_with e u = orders_nothing e
@@ -152,18 +169,18 @@ module _ (g : ℕ) (k : AxisMeans) (t : Trace) (w : ℕ) (words : List ℤ) (b :
     rows_are = ap (rows_after t.rows) (ap (ordered_in w) is ∙ cm)
 
     -- a single move
-    goes : (to : ℤ) → command_effect a co b ≡ single a b to → rows_by t.rows co b ≡ t.rows → Begun k.profile (leg_plan k (leg_to b to)) p → G (Ok tt) (began k (go_travel k (leg_to b to)) p)
-    goes to ef ro begun =
+    goes : IsResting t k.drive.place k.profile → (to : ℤ) → command_effect a co b ≡ single a b to → rows_by t.rows co b ≡ t.rows → Begun k.profile (leg_plan k (leg_to b to)) p → G (Ok tt) (began k (go_travel k (leg_to b to)) p)
+    goes r to ef ro begun =
         let plan : PlanMeans = plan_in k.memory.table.start b (record { steps = distance k.drive.place to; speed = speed_in b } ∷ []) in
         let leg : Leg = record { way = toward k.drive.place to; plan = plan } in
         move_good g k t w c ws to leg [] (leg ∷ []) 0 (Single to) p h refl refl refl refl
-        (single_ends k.drive.place to plan (speed_in b) refl) begun s (effect_is ∙ ef) (rows_are ∙ ro) keeps refl refl tt
+        (single_ends k.drive.place to plan (speed_in b) refl) begun s (effect_is ∙ ef) (rows_are ∙ ro) keeps refl refl (stood r) tt
 
     stops : command_effect a co b ≡ Stops → rows_by t.rows co b ≡ t.rows → G (Ok tt) (with_memory k (stopped k.memory))
     stops ef ro =
         good_by Stops t.rows (effect_is ∙ ef) (rows_are ∙ ro) refl keeps refl (stopped_start k.memory.state k.memory.table)
         (record { rows = stopped_rows k.memory.state k.memory.table t.rows h.rows; moving = stopped_rests t k.drive.place k.profile (plain (with_memory k (stopped k.memory))) (pos 0) a t.rows })
-        (omega arith) tt tt (λ x y. absurd (both_ways _ x y))
+        (omega arith) tt tt (λ x y. absurd (both_ways _ x y)) tt
 
     presets : (x : ℤ) → command_effect a co b ≡ Presets x → rows_by t.rows co b ≡ t.rows → is_position x ≡ true → rests k.memory.state ≡ true → G (Ok tt) (preset k x)
     presets x ef ro near st =
@@ -171,17 +188,17 @@ module _ (g : ℕ) (k : AxisMeans) (t : Trace) (w : ℕ) (words : List ℤ) (b :
         let r = resting k.memory.state t k.memory.table k.drive.place k.profile st h.moving in
         good_by (Presets x) t.rows (effect_is ∙ ef) (rows_are ∙ ro) there keeps refl refl
         (record { rows = λ q. h.rows (or_right _ _ q); moving = record { journey = tt; over = r.over; slows = r.slows } })
-        (omega arith) tt tt (λ y z. absurd (false≢true z))
+        (omega arith) tt tt (λ y z. absurd (false≢true z)) (stood r)
 
     resets : (trip : Bool) → command_effect a co b ≡ Nothing → rows_by t.rows co b ≡ t.rows → G (Ok tt) (reset k trip)
-    resets true ef ro = good_by Nothing t.rows (effect_is ∙ ef) (rows_are ∙ ro) refl keeps refl refl (still (reset k true) refl refl refl refl) (omega arith) tt tt (λ y z. absurd (false≢true z))
-    resets false ef ro = good_by Nothing t.rows (effect_is ∙ ef) (rows_are ∙ ro) refl keeps refl refl (still (reset k false) refl refl refl refl) (omega arith) tt tt (λ y z. absurd (false≢true z))
+    resets true ef ro = good_by Nothing t.rows (effect_is ∙ ef) (rows_are ∙ ro) refl keeps refl refl (still (reset k true) refl refl refl refl) (omega arith) tt tt (λ y z. absurd (false≢true z)) tt
+    resets false ef ro = good_by Nothing t.rows (effect_is ∙ ef) (rows_are ∙ ro) refl keeps refl refl (still (reset k false) refl refl refl refl) (omega arith) tt tt (λ y z. absurd (false≢true z)) tt
 
     begins : command_effect a co b ≡ Nothing → rows_by t.rows co b ≡ [] → rests k.memory.state ≡ true → G (Ok tt) (with_memory k (programmed k.memory))
     begins ef ro st =
         good_by Nothing [] (effect_is ∙ ef) (rows_are ∙ ro) refl keeps refl refl
         (record { rows = λ q. refl; moving = rests_with [] k.memory.flags.complete t k.drive.place k.profile (resting k.memory.state t k.memory.table k.drive.place k.profile st h.moving) })
-        (omega arith) tt tt (λ x y. absurd (both_ways _ x y))
+        (omega arith) tt tt (λ x y. absurd (both_ways _ x y)) tt
 
     adds : (x : Segment) → command_effect a co b ≡ Nothing → rows_by t.rows co b ≡ t.rows ++ x ∷ [] → programs k.memory.state ≡ true → G (Ok tt) (with_memory k (with_table k.memory (added k.memory.table x)))
     adds x ef ro st =
@@ -190,7 +207,7 @@ module _ (g : ℕ) (k : AxisMeans) (t : Trace) (w : ℕ) (words : List ℤ) (b :
           rows = λ q. ap (λ z. z ++ x ∷ []) (h.rows (or_left _ _ st));
           moving = programming_too k.memory.state (with_rows t k.memory.flags.complete (t.rows ++ x ∷ [])) (added k.memory.table x) k.drive.place k.profile st (rests_with (t.rows ++ x ∷ []) k.memory.flags.complete t k.drive.place k.profile (programming k.memory.state t k.memory.table k.drive.place k.profile st h.moving));
         })
-        (omega arith) tt tt (λ x y. absurd (both_ways _ x y))
+        (omega arith) tt tt (λ x y. absurd (both_ways _ x y)) tt
 
     -- a hold
     module _ (ef : command_effect a co b ≡ HoldsEffect) (ro : rows_by t.rows co b ≡ t.rows) where
@@ -220,29 +237,30 @@ module _ (g : ℕ) (k : AxisMeans) (t : Trace) (w : ℕ) (words : List ℤ) (b :
         rest : (x : MemoryMeans) → k.memory.kept ≡ x.kept → k.memory.levels ≡ x.levels → k.memory.table ≡ x.table
             → Programmed t (record { drive = k.drive; profile = p; memory = x })
             → Moving x.state (record { rows = t.rows; sent_to = t.sent_to; journey = braked t.journey; underway = None; resting = Some (record { allowed = brake_ticks p; sent = 0 }) }) x.table k.drive.place p
-            → (k.memory.flags.complete ≡ false → x.flags.complete ≡ true → k.drive.place ≡ t.sent_to) → P x
+            → (k.memory.flags.complete ≡ false → x.flags.complete ≡ true → (k.drive.place ≡ t.sent_to) × Still (braked t.journey) (plain (record { drive = k.drive; profile = p; memory = x }))) → P x
         rest x ke le tb rows moving arrives =
             good_by HoldsEffect t.rows (effect_is ∙ ef) (rows_are ∙ ro) refl (keeps ∙ ke) le (ap (λ (z : TableMeans). z.start) tb)
-            (record { rows = rows; moving = moving }) (omega arith) tt tt arrives
+            (record { rows = rows; moving = moving }) (omega arith) tt tt arrives (subst Travelling (sym r.journey) tt)
 
-        quiet : IsResting (record { rows = t.rows; sent_to = t.sent_to; journey = braked t.journey; underway = None; resting = Some (record { allowed = brake_ticks p; sent = 0 }) }) k.drive.place p
-        quiet = held_resting (held_on r.from r.leg) now (on_it.plan_is, on_it.keeps_up) true
+        quiet : eqb p.left 0 ≡ true → IsResting (record { rows = t.rows; sent_to = t.sent_to; journey = braked t.journey; underway = None; resting = Some (record { allowed = brake_ticks p; sent = 0 }) }) k.drive.place p
+        quiet z = held_resting (held_on r.from r.leg) now (on_it.plan_is, on_it.keeps_up, over_is p s ∙ z) true
 
         ready : {b : Bool} → (b || k.memory.table.ready) ≡ true → b ≡ false → t.rows ≡ k.memory.table.rows
         ready {b} e f = h.rows (or_right _ _ (sym (ap (λ z. z || k.memory.table.ready) f) ∙ e))
 
-        rests_by : (kind : Kind) → Aims kind t.sent_to → P (rested k.memory k.drive.place kind)
-        rests_by (Single target) aims =
+        rests_by : eqb p.left 0 ≡ true → (kind : Kind) → Aims kind t.sent_to → P (rested k.memory k.drive.place kind)
+        rests_by z (Single target) aims =
             cond_both (eqb (distance k.drive.place target) 0) _ _ P
-            (λ e. rest (completed k.memory) refl refl refl (λ q. ready q refl) quiet (λ x y. sym (no_distance k.drive.place target (eqb-true _ _ e)) ∙ aims))
-            (λ e. rest (with_state k.memory (Held target)) refl refl refl (λ q. ready q refl) (quiet, aims) (λ x y. absurd (both_ways _ x y)))
-        rests_by Blend aims = rest (with_state k.memory Idle) refl refl refl (λ q. ready q refl) quiet (λ x y. absurd (both_ways _ x y))
-        rests_by (Dwell row) aims = rest (with_state k.memory Idle) refl refl refl (λ q. ready q refl) quiet (λ x y. absurd (both_ways _ x y))
+            (λ e. rest (completed k.memory) refl refl refl (λ q. ready q refl) (quiet z)
+            (λ x y. (sym (no_distance k.drive.place target (eqb-true _ _ e)) ∙ aims, subst (λ j. Still j (plain (record { drive = k.drive; profile = p; memory = completed k.memory }))) (sym now) (over_is p s ∙ z))))
+            (λ e. rest (with_state k.memory (Held target)) refl refl refl (λ q. ready q refl) (quiet z, aims) (λ x y. absurd (both_ways _ x y)))
+        rests_by z Blend aims = rest (with_state k.memory Idle) refl refl refl (λ q. ready q refl) (quiet z) (λ x y. absurd (both_ways _ x y))
+        rests_by z (Dwell row) aims = rest (with_state k.memory Idle) refl refl refl (λ q. ready q refl) (quiet z) (λ x y. absurd (both_ways _ x y))
 
         eases : P (eased k.memory (eqb p.left 0) k.drive.place travel)
         eases =
             cond_both (eqb p.left 0) _ _ P
-            (λ e. rests_by travel.kind r.aims)
+            (λ e. rests_by e travel.kind r.aims)
             (λ e.
             let z = eqb-false _ _ e in
             rest (with_state k.memory (Holding travel)) refl refl refl (λ q. ready q refl)
@@ -257,24 +275,24 @@ module _ (g : ℕ) (k : AxisMeans) (t : Trace) (w : ℕ) (words : List ℤ) (b :
       holds_in (Pausing next ticks) e mo q u =
           good_by HoldsEffect t.rows (effect_is ∙ ef) (rows_are ∙ ro) refl keeps refl refl
           (record { rows = λ z. h.rows (or_right _ _ z); moving = held_resting none (ap braked mo.journey) tt true })
-          (omega arith) tt tt (λ x y. absurd (both_ways _ x y))
+          (omega arith) tt tt (λ x y. absurd (both_ways _ x y)) (subst Travelling (sym mo.journey) tt)
       holds_in (Holding travel) e mo q u = absurd (false≢true q)
       holds_in (Held target) e mo q u = absurd (false≢true q)
 
     -- a run of the table, whose rows are those of the latest programming
     module _ (ro : rows_by t.rows co b ≡ t.rows) (tb_is : t.rows ≡ k.memory.table.rows) where
-      blends : command_effect a co b ≡ blend a b → Begun k.profile (blend_plan k.memory.table (rates_of b)) p
+      blends : IsResting t k.drive.place k.profile → command_effect a co b ≡ blend a b → Begun k.profile (blend_plan k.memory.table (rates_of b)) p
           → G (Ok tt) (began k (record { direction = direction_of b; kind = Blend }) p)
-      blends ef begun =
+      blends r ef begun =
           let leg : Leg = record { way = direction_of b; plan = blend_plan k.memory.table (rates_of b) } in
           let to : ℤ = k.drive.place +ℤ signed (direction_of b) (plan_steps leg.plan) in
           let same : blend a b ≡ Moves to (record { legs = leg ∷ []; pause = 0 }) =
           ap (λ rs. Moves (k.drive.place +ℤ signed (direction_of b) (steps_of (map row_of rs))) (record { legs = record { way = direction_of b; plan = plan_in k.memory.table.start b (map row_of rs) } ∷ []; pause = 0 })) tb_is in
-          move_good g k t w c ws to leg [] (leg ∷ []) 0 Blend p h refl refl refl tt refl begun s (effect_is ∙ (ef ∙ same)) (rows_are ∙ ro) keeps refl refl tt
+          move_good g k t w c ws to leg [] (leg ∷ []) 0 Blend p h refl refl refl tt refl begun s (effect_is ∙ (ef ∙ same)) (rows_are ∙ ro) keeps refl refl (stood r) tt
 
-      dwells : command_effect a co b ≡ dwell a b → 0 < length k.memory.table.rows → Begun k.profile (row_plan k.memory.table (rates_of b) 0) p
+      dwells : IsResting t k.drive.place k.profile → command_effect a co b ≡ dwell a b → 0 < length k.memory.table.rows → Begun k.profile (row_plan k.memory.table (rates_of b) 0) p
           → G (Ok tt) (began k (row_travel k.memory.table (record { run = run_of b; index = 0 })) p)
-      dwells ef some begun =
+      dwells r ef some begun =
           let tb = k.memory.table in
           let legs : List Leg = map (row_leg tb.start b) tb.rows in
           let leg : Leg = record { way = way_of (row_at tb 0); plan = row_plan tb (rates_of b) 0 } in
@@ -285,16 +303,16 @@ module _ (g : ℕ) (k : AxisMeans) (t : Trace) (w : ℕ) (words : List ℤ) (b :
           ap (λ rs. Moves (k.drive.place +ℤ sum_of rs) (record { legs = map (row_leg tb.start b) rs; pause = nat_abs b.dwell })) tb_is in
           let ends = ap (legs_end k.drive.place) (sym is_legs) ∙ rows_end tb.start b k.drive.place tb.rows in
           move_good g k t w c ws to leg ls legs (nat_abs b.dwell) (Dwell (record { run = run_of b; index = 0 })) p h is_legs refl refl tt ends begun s
-          (effect_is ∙ (ef ∙ same)) (rows_are ∙ ro) keeps refl refl tt
+          (effect_is ∙ (ef ∙ same)) (rows_are ∙ ro) keeps refl refl (stood r) tt
 
   -- the order of a command that the state allows
   carries : (co : Command) → ordered_in w (Ok b) ≡ Some (record { command = co; block = b }) → (o : Order) → allowed k co ≡ true → values_judged g k b co ≡ Ok o → Uses k o p → G (Ok tt) (carried k o p)
   carries command.Absolute cm o al e u =
       let q = absolute_is g k b o e in
-      subst (λ x. Uses k x p → G (Ok tt) (carried k x p)) (sym q) (goes command.Absolute cm (number_in b) refl refl) u
+      subst (λ x. Uses k x p → G (Ok tt) (carried k x p)) (sym q) (goes command.Absolute cm (at_rest (and_parts (rests k.memory.state) _ al).0) (number_in b) refl refl) u
   carries command.Relative cm o al e u =
       let q = relative_is g k b o e in
-      subst (λ x. Uses k x p → G (Ok tt) (carried k x p)) (sym q) (goes command.Relative cm (k.drive.place +ℤ number_in b) refl refl) u
+      subst (λ x. Uses k x p → G (Ok tt) (carried k x p)) (sym q) (goes command.Relative cm (at_rest (and_parts (rests k.memory.state) _ al).0) (k.drive.place +ℤ number_in b) refl refl) u
   carries command.Hold cm o al e u =
       let q : o ≡ order.Hold = ordered_same order.Hold o e in
       subst (λ x. Uses k x p → G (Ok tt) (carried k x p)) (sym q) (λ v. holds_in command.Hold cm refl refl k.memory.state refl h.moving al v) u
@@ -305,7 +323,7 @@ module _ (g : ℕ) (k : AxisMeans) (t : Trace) (w : ℕ) (words : List ℤ) (b :
       on (Some target) f r =
           let q = resume_is g k b target o r in
           let there : target ≡ t.sent_to = held_there k.memory.state t k.memory.table k.drive.place k.profile target f h.moving in
-          subst (λ x. Uses k x p → G (Ok tt) (carried k x p)) (sym q) (goes command.Resume cm target (ap (λ x. single a b x) (sym there)) refl) u
+          subst (λ x. Uses k x p → G (Ok tt) (carried k x p)) (sym q) (goes command.Resume cm (held_rests k.memory.state t k.memory.table k.drive.place k.profile target f h.moving) target (ap (λ x. single a b x) (sym there)) refl) u
   carries command.Stop cm o al e u =
       let q : o ≡ order.Stop = ordered_same order.Stop o e in
       subst (λ x. Uses k x p → G (Ok tt) (carried k x p)) (sym q) (λ v. stops command.Stop cm refl refl) u
@@ -335,10 +353,10 @@ module _ (g : ℕ) (k : AxisMeans) (t : Trace) (w : ℕ) (words : List ℤ) (b :
       on : (x : Bool) → is_dwell_of b ≡ x → cond x (dwell_judged k b) (blend_judged k b) ≡ Ok o → G (Ok tt) (carried k o p)
       on true f r =
           let q = dwell_is g k b o r in
-          subst (λ x. Uses k x p → G (Ok tt) (carried k x p)) (sym q) (λ v. dwells command.Run cm refl rows (ap (λ z. cond z (dwell a b) (blend a b)) f) (enough ready) v) u
+          subst (λ x. Uses k x p → G (Ok tt) (carried k x p)) (sym q) (λ v. dwells command.Run cm refl rows (at_rest (and_parts (rests k.memory.state) _ al).0) (ap (λ z. cond z (dwell a b) (blend a b)) f) (enough ready) v) u
       on false f r =
           let q = blend_is g k b o r in
-          subst (λ x. Uses k x p → G (Ok tt) (carried k x p)) (sym q) (λ v. blends command.Run cm refl rows (ap (λ z. cond z (dwell a b) (blend a b)) f) v) u
+          subst (λ x. Uses k x p → G (Ok tt) (carried k x p)) (sym q) (λ v. blends command.Run cm refl rows (at_rest (and_parts (rests k.memory.state) _ al).0) (ap (λ z. cond z (dwell a b) (blend a b)) f) v) u
 
   abbrev Told : Result Order Refusal → Type 0
   Told r = UsesBy k r p → G (answered r) (finished k r p)
@@ -389,7 +407,7 @@ block_good g m t words p ws h f s u = on (block_of words) refl u
     on (Err why) e v =
         good_by Nothing t.rows refl refl refl (ap (kept_in m.memory.kept) e) refl refl
         (record { rows = h.rows; moving = moves_still m.memory.state m.memory.flags.complete t m.memory.table m.drive.place m.profile h.moving })
-        (omega arith) tt tt (λ x y. absurd (both_ways _ x y))
+        (omega arith) tt tt (λ x y. absurd (both_ways _ x y)) tt
     on (Ok b) e v =
         let k = keeps_word g m t h f b.bits (closes m.memory b.bits) refl in
         subst (λ a. Good g a (BlockCall words) (Replied (answer_of g m (Ok b))) ws (after g m (Ok b) p)) (sym k.told_is)

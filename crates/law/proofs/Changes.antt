@@ -9,11 +9,12 @@ use Rattle.axis.specs.Judging.{programs}
 use Rattle.axis.specs.Stops.{table_stopped}
 use Rattle.axis.specs.declared.state.State.{State}
 use Rattle.axis.specs.declared.state.State.TheVariants.{Idle, Programming, Running, Pausing, Holding, Held}
-use Rattle.law.proofs.Facts.{plain, Trace, IsResting, Holds}
+use Rattle.law.proofs.Facts.{AtRest, plain, Trace, IsResting, Holds}
 use Rattle.law.proofs.Goods.{Good}
 use Rattle.law.specs.Accounts.{Account, Effect, Stops, ordered, kept_after, levels_after, start_after, rows_after, accepted_effect, counted_by, sent_by, journey_by, underway_by, resting_by}
 use Rattle.law.specs.Calls.{Call, Answer, accepted, steps_in}
-use Rattle.law.specs.Law.{CallLaw, Clears, Arrives}
+use Rattle.law.specs.Journeys.{Journey, none, on, waiting, held}
+use Rattle.law.specs.Law.{CallLaw, Clears, Arrives, Still, Stands}
 use Rattle.law.specs.Moments.{View}
 
 -- what is told besides, after an effect
@@ -32,9 +33,10 @@ pub good_by :
     → accepted_effect a c r ≡ e → rows_after a.rows (ordered a.kept c (accepted r)) ≡ rows
     → counted_by a.counted e (steps_in r) ≡ m'.drive.place → kept_after a.kept c ≡ m'.memory.kept → levels_after a.levels c ≡ m'.memory.levels
     → start_after a.start c (accepted r) ≡ m'.memory.table.start → Holds m' (trace_by a e rows (steps_in r) (plain m'))
-    → nat_abs (steps_in r) ≤ up_div (fastest m'.profile.plan) 1000 → CallLaw g a c r ws (plain m') → Clears e (plain m') → Arrives a (plain m')
+    → nat_abs (steps_in r) ≤ up_div (fastest m'.profile.plan) 1000 → CallLaw g a c r ws (plain m') → Clears e (plain m')
+    → Arrives a (journey_by a.view.position a.journey e (plain m')) (plain m') → Stands a e
     → Good g a c r ws m'
-good_by {g} {a} {c} {r} {ws} {m'} e rows ef ro ct ke le st ho sl ca cl ar =
+good_by {g} {a} {c} {r} {ws} {m'} e rows ef ro ct ke le st ho sl ca cl ar sd =
     record {
       counted = ap (λ x. counted_by a.counted x (steps_in r)) ef ∙ ct;
       kept = ke;
@@ -45,7 +47,8 @@ good_by {g} {a} {c} {r} {ws} {m'} e rows ef ro ct ke le st ho sl ca cl ar =
       slow = sl;
       call = ca;
       clears = subst (λ x. Clears x (plain m')) (sym ef) cl;
-      arrives = ar;
+      arrives = subst (λ x. Arrives a (journey_by a.view.position a.journey x (plain m')) (plain m')) (sym ef) ar;
+      stands = subst (Stands a) (sym ef) sd;
     }
 
 -- a full stop leaves the rows of the table, but in Programming
@@ -70,3 +73,10 @@ stopped_start (Held target) tb = refl
 -- nothing moves after it
 pub stopped_rests : (t : Trace) (place : ℤ) (p : ProfileMeans) (v : View) (n : ℤ) (a : Account) (rows : List Segment) → IsResting (trace_by a Stops rows n v) place p
 stopped_rests t place p v n a rows = record { journey = tt; over = refl; slows = omega arith }
+
+-- what is at rest stands still
+pub stands_still : (j : Journey) (v : View) → AtRest j v.position v.profile → Still j v
+stands_still none v h = tt
+stands_still (on x l ls w) v h = absurd h
+stands_still (waiting u x l ls w) v h = absurd h
+stands_still (held x l) v h = h.2

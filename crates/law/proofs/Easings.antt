@@ -25,11 +25,11 @@ use Rattle.unrefused.specs.Fits.{Underway, UnrefusedIn, Fit}
 use Rattle.law.proofs.Facts.{plain, Trace, told, trace_of, Aims, Rests, AtRest, OnLeg, IsPausing, IsHolding, IsResting, Moving, Programmed}
 use Rattle.law.proofs.Goods.{Good}
 use Rattle.law.proofs.Legs.{takes_it}
-use Rattle.law.proofs.Ticks.{stands, still_on, is_due, is_slow, one_less, one_more_none, run_tick, row_tick, wait_tick, rest_tick}
+use Rattle.law.proofs.Ticks.{over_is, stands, still_on, is_due, is_slow, one_less, one_more_none, run_tick, row_tick, wait_tick, rest_tick}
 use Rattle.law.specs.Accounts.{Rest, account_after, one_more, sending}
 use Rattle.law.specs.Calls.{Tick, Sent}
-use Rattle.law.specs.Journeys.{held, ticked, due_in}
-use Rattle.law.specs.Law.{TravelsOn, Takes, Arrives}
+use Rattle.law.specs.Journeys.{Journey, held, ticked, due_in}
+use Rattle.law.specs.Law.{TravelsOn, Takes, Arrives, Still}
 
 slowed_next : (s : Option Rest) (n : ℤ) (a b : ℕ) → suc a ≤ b → Rests s b → Rests (sending s n) a
 slowed_next None n a b l h = tt
@@ -69,7 +69,7 @@ module _ (g : ℕ) (m : AxisMeans) (t : Trace) (travel : Travel) (p : ProfileMea
 
   good : (k' : MemoryMeans) → k.kept ≡ k'.kept → k.levels ≡ k'.levels → k.table ≡ k'.table → Programmed t (record { drive = d'; profile = p; memory = k' })
       → Moving k'.state (trace_of (account_after (told m t) Tick (Sent n) (plain (record { drive = d'; profile = p; memory = k' })))) k'.table d'.place p
-      → Arrives (told m t) (plain (record { drive = d'; profile = p; memory = k' })) → P k'
+      → Arrives (told m t) (account_after (told m t) Tick (Sent n) (plain (record { drive = d'; profile = p; memory = k' }))).journey (plain (record { drive = d'; profile = p; memory = k' })) → P k'
   good k' e₁ e₂ e₃ rows moving arrives =
       record {
         counted = sym far;
@@ -85,32 +85,34 @@ module _ (g : ℕ) (m : AxisMeans) (t : Trace) (travel : Travel) (p : ProfileMea
         };
         clears = tt;
         arrives = arrives;
+        stands = tt;
       }
 
   -- at rest after it
-  resting : (o c : Bool) → IsResting (record { rows = t.rows; sent_to = t.sent_to; journey = ticked o t.journey; underway = cond c None (one_more t.underway); resting = sending t.resting n }) d'.place p
-  resting o c =
+  resting : eqb p.left 0 ≡ true → (o c : Bool) → IsResting (record { rows = t.rows; sent_to = t.sent_to; journey = ticked o t.journey; underway = cond c None (one_more t.underway); resting = sending t.resting n }) d'.place p
+  resting e o c =
       record {
-        journey = subst (λ j. AtRest j d'.place p) (sym (journey o)) (there.plan_is, there.keeps_up);
+        journey = subst (λ j. AtRest j d'.place p) (sym (journey o)) (there.plan_is, there.keeps_up, over_is p s ∙ e);
         over = one_more_none c t.underway h.over;
         slows = slowed_next t.resting n 0 m.profile.left (omega (arith, one)) h.slows;
       }
 
-  not_set : Arrives (told m t) (plain (record { drive = d'; profile = p; memory = k }))
-  not_set x y = absurd (both_ways _ x y)
+  not_set : (j : Journey) → Arrives (told m t) j (plain (record { drive = d'; profile = p; memory = k }))
+  not_set j x y = absurd (both_ways _ x y)
 
-  rests : (kind : Kind) → Aims kind t.sent_to → P (rested k d'.place kind)
-  rests (Single target) aims =
+  rests : eqb p.left 0 ≡ true → (kind : Kind) → Aims kind t.sent_to → P (rested k d'.place kind)
+  rests z (Single target) aims =
       cond_both (eqb (distance d'.place target) 0) _ _ P
-      (λ e. good (completed k) refl refl refl rows (resting _ true) (λ x y. sym (no_distance d'.place target (eqb-true _ _ e)) ∙ aims))
-      (λ e. good (with_state k (Held target)) refl refl refl rows (resting _ _, aims) not_set)
-  rests Blend aims = good (with_state k Idle) refl refl refl rows (resting _ _) not_set
-  rests (Dwell row) aims = good (with_state k Idle) refl refl refl rows (resting _ _) not_set
+      (λ e. good (completed k) refl refl refl rows (resting z _ true)
+      (λ x y. (sym (no_distance d'.place target (eqb-true _ _ e)) ∙ aims, subst (λ j. Still j (plain (record { drive = d'; profile = p; memory = completed k }))) (sym (journey _)) (over_is p s ∙ z))))
+      (λ e. good (with_state k (Held target)) refl refl refl rows (resting z _ _, aims) (not_set _))
+  rests z Blend aims = good (with_state k Idle) refl refl refl rows (resting z _ _) (not_set _)
+  rests z (Dwell row) aims = good (with_state k Idle) refl refl refl rows (resting z _ _) (not_set _)
 
   eases : P (eased k (eqb p.left 0) d'.place travel)
   eases =
       cond_both (eqb p.left 0) _ _ P
-      (λ e. rests travel.kind h.aims)
+      (λ e. rests e travel.kind h.aims)
       (λ e.
       let left = eqb-false _ _ e in
       good (with_state k (Holding travel)) refl refl refl rows
@@ -124,7 +126,7 @@ module _ (g : ℕ) (m : AxisMeans) (t : Trace) (travel : Travel) (p : ProfileMea
         over = one_more_none _ t.underway h.over;
         slows = slowed_next t.resting n p.left m.profile.left (omega (arith, one)) h.slows;
       })
-      not_set)
+      (not_set _))
 
   pub hold_tick : Good g (told m t) Tick (Sent (steps_sent g m travel.direction m.profile.gone p)) ws (moved_on g (Holding travel) m travel.direction m.profile.gone p)
   hold_tick =

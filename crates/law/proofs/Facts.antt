@@ -1,5 +1,5 @@
 -- What holds between the account of a run and the axis that the run leads to.
-use Rattle.std.proofs.Common.{◌≡◌, ℕ, ◌+◌, ◌*◌, ◌<◌, ◌≤◌, Bool, true, false, cond, ◌||◌, List, [], ◌∷◌, map, drop, ℤ, Some, None, Option, refl}
+use Rattle.std.proofs.Common.{◌≡◌, ℕ, ◌+◌, ◌*◌, ◌<◌, ◌≤◌, Bool, true, false, cond, eqb, ◌||◌, List, [], ◌∷◌, map, drop, ℤ, Some, None, Option, refl}
 use Rattle.drive.specs.declared.direction.Direction.{Direction}
 use Rattle.profile.specs.Plans.{plan_steps}
 use Rattle.profile.specs.Profiles.{ProfileMeans, plan_ticks}
@@ -132,7 +132,7 @@ abbrev pub AtRest : Journey → ℤ → ProfileMeans → Type 0
 AtRest none place p = Unit {0}
 AtRest (on x l ls w) place p = ⊥
 AtRest (waiting u x l ls w) place p = ⊥
-AtRest (held x l) place p = (p.plan ≡ Some l.plan) × (place ≡ along x l p.gone)
+AtRest (held x l) place p = (p.plan ≡ Some l.plan) × (place ≡ along x l p.gone) × (eqb p.gone p.asked ≡ true)
 
 pub record IsResting (t : Trace) (place : ℤ) (p : ProfileMeans) : Type 0 where
   pub journey : AtRest t.journey place p

@@ -13,10 +13,12 @@ use Rattle.axis.specs.declared.state.State.{State}
 use Rattle.axis.specs.declared.state.State.TheVariants.{Idle, Programming, Running, Pausing, Holding, Held}
 use Rattle.law.proofs.Facts.{plain, Trace, told, trace_of, Timed, Rests, AtRest, IsPausing, Moving, Holds}
 use Rattle.law.proofs.Legs.{plan_takes, legs_next}
+use Rattle.block.specs.Frames.{pair_at}
+use Rattle.block.specs.Pairs.{decoded}
 use Rattle.law.specs.Accounts.{Account, Timing, Rest, account_after, accepted_effect}
 use Rattle.law.specs.Calls.{Call, Answer, steps_in}
 use Rattle.law.specs.Journeys.{Journey, none, on, waiting, held}
-use Rattle.law.specs.Law.{Travels, CallLaw, Clears, InTime, Arrives, Slow, Law}
+use Rattle.law.specs.Law.{Travels, CallLaw, Clears, InTime, Arrives, Stands, Settles, Law}
 use Rattle.law.specs.Moments.{View}
 
 -- after a moment that leaves m', where a was told before it
@@ -29,7 +31,8 @@ pub record Good (g : ℕ) (a : Account) (c : Call) (r : Answer) (ws : List ℤ) 
   pub slow : nat_abs (steps_in r) ≤ up_div (fastest m'.profile.plan) 1000
   pub call : CallLaw g a c r ws (plain m')
   pub clears : Clears (accepted_effect a c r) (plain m')
-  pub arrives : Arrives a (plain m')
+  pub arrives : Arrives a (account_after a c r (plain m')).journey (plain m')
+  pub stands : Stands a (accepted_effect a c r)
 
 -- the account after it
 pub same_account :
@@ -46,11 +49,11 @@ over_in_time : (u : Option Timing) → u ≡ None → InTime u
 over_in_time None e = tt
 over_in_time (Some t) e = let z : ◌≡◌ {A = Option Timing} (Some t) None = e in cc
 
-rests_less : (s : Option Rest) (n : ℕ) → Rests s n → Slow s
+rests_less : (s : Option Rest) (n : ℕ) → Rests s n → Settles s
 rests_less None n h = tt
 rests_less (Some r) n h = omega (arith, h)
 
-free_slow : (s : Option Rest) → s ≡ None → Slow s
+free_slow : (s : Option Rest) → s ≡ None → Settles s
 free_slow None e = tt
 free_slow (Some r) e = let z : ◌≡◌ {A = Option Rest} (Some r) None = e in cc
 
@@ -70,13 +73,13 @@ module _ (v : View) where
   rested none h = tt
   rested (on x l ls w) h = absurd h
   rested (waiting u x l ls w) h = absurd h
-  rested (held x l) h = h
+  rested (held x l) h = (h.0, h.1)
 
   moving_travels : (s : State) (t : Trace) (tb : TableMeans) → Moving s t tb v.position v.profile → Travels t.journey v
   moving_travels Idle t tb h = rested t.journey h.journey
   moving_travels Programming t tb h = rested t.journey h.journey
   moving_travels (Running travel) t tb h = rw h.journey (h.leg_is.plan_is, h.leg_is.keeps_up)
-  moving_travels (Pausing next ticks) t tb h = rw h.journey (eq-eqb _ _ h.over, refl, omega (arith, h.counts))
+  moving_travels (Pausing next ticks) t tb h = rw h.journey (eq-eqb _ _ h.over, refl)
   moving_travels (Holding travel) t tb h = rw h.journey (h.leg_is.plan_is, h.leg_is.keeps_up)
   moving_travels (Held target) t tb h = rested t.journey h.0.journey
 
@@ -88,7 +91,7 @@ module _ (v : View) where
   moving_in_time g (Holding travel) t tb d f u h = over_in_time t.underway h.over
   moving_in_time g (Held target) t tb d f u h = over_in_time t.underway h.0.over
 
-  moving_slow : (s : State) (t : Trace) (tb : TableMeans) → Moving s t tb v.position v.profile → Slow t.resting
+  moving_slow : (s : State) (t : Trace) (tb : TableMeans) → Moving s t tb v.position v.profile → Settles t.resting
   moving_slow Idle t tb h = rests_less t.resting 0 h.slows
   moving_slow Programming t tb h = rests_less t.resting 0 h.slows
   moving_slow (Running travel) t tb h = free_slow t.resting h.free
@@ -97,9 +100,9 @@ module _ (v : View) where
   moving_slow (Held target) t tb h = rests_less t.resting 0 h.0.slows
 
 pub law_of :
-    {g : ℕ} {a : Account} {c : Call} {r : Answer} {ws : List ℤ} {m' : AxisMeans} → Fit g m' → Good g a c r ws m'
+    {g : ℕ} {a : Account} {c : Call} {r : Answer} {ws : List ℤ} {m' : AxisMeans} → Fit g m' → decoded (pair_at ws 2) ≡ Some m'.drive.place → Good g a c r ws m'
     → Law g a c r ws (plain m')
-law_of {g} {a} {c} {r} {ws} {m'} f h =
+law_of {g} {a} {c} {r} {ws} {m'} f pair h =
     let t' = trace_of (account_after a c r (plain m')) in
     let moving = h.holds.moving in
     record {
@@ -110,5 +113,7 @@ law_of {g} {a} {c} {r} {ws} {m'} f h =
       clears = h.clears;
       in_time = moving_in_time (plain m') g m'.memory.state t' m'.memory.table m'.drive f.table f.underway moving;
       arrives = h.arrives;
+      stands = h.stands;
+      pair = pair;
       rests = moving_slow (plain m') m'.memory.state t' m'.memory.table moving;
     }

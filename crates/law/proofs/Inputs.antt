@@ -78,9 +78,9 @@ setup_good g m t n ws h = on (is_idle m.memory.state) refl (start_fits g n)
 
     on : (b : Bool) → is_idle k.state ≡ b → (c : Bool)
         → Good g (told m t) (SetUp n) (Replied (cond b (cond c (Ok tt) (Err refusal.StartSpeed)) (Err refusal.State))) ws (with_memory m (cond b (cond c (configured k (nat_abs n)) (misconfigured k)) k))
-    on true e true = good_by Nothing t.rows refl refl refl refl refl refl (empties (configured k (nat_abs n)) (nat_abs n) e refl refl refl) (omega arith) tt tt (λ x y. absurd (both_ways _ x y))
-    on true e false = good_by Nothing t.rows refl refl refl refl refl refl (empties (misconfigured k) k.table.start e refl refl refl) (omega arith) tt tt (λ x y. absurd (both_ways _ x y))
-    on false e c = good_by Nothing t.rows refl refl refl refl refl refl (quiet m t h) (omega arith) tt tt (λ x y. absurd (both_ways _ x y))
+    on true e true = good_by Nothing t.rows refl refl refl refl refl refl (empties (configured k (nat_abs n)) (nat_abs n) e refl refl refl) (omega arith) tt tt (λ x y. absurd (both_ways _ x y)) tt
+    on true e false = good_by Nothing t.rows refl refl refl refl refl refl (empties (misconfigured k) k.table.start e refl refl refl) (omega arith) tt tt (λ x y. absurd (both_ways _ x y)) tt
+    on false e c = good_by Nothing t.rows refl refl refl refl refl refl (quiet m t h) (omega arith) tt tt (λ x y. absurd (both_ways _ x y)) tt
 
 -- ---- readings
 
@@ -88,7 +88,7 @@ pub reading_good :
     (g : ℕ) (m : AxisMeans) (t : Trace) (buffer : List ℤ) → Holds m t
     → Good g (told m t) (Reading buffer) (Read (reading_answer buffer) (read_into m buffer)) (status_words m) m
 reading_good g m t buffer h =
-    good_by Nothing t.rows refl refl refl refl refl refl (quiet m t h) (omega arith) (record { reads = refl; keeps = refl }) tt (λ x y. absurd (both_ways _ x y))
+    good_by Nothing t.rows refl refl refl refl refl refl (quiet m t h) (omega arith) (record { reads = refl; keeps = refl }) tt (λ x y. absurd (both_ways _ x y)) tt
 
 -- ---- events
 
@@ -135,13 +135,13 @@ module _ (g : ℕ) (m : AxisMeans) (t : Trace) (n : ℤ) (ws : List ℤ) (h : Ho
         rows = stopped_rows x.state x.table t.rows (λ r. h.rows (sym (ap (λ s. programs s || x.table.ready) st ∙ ap (λ (z : TableMeans). programs k.state || z.ready) tb) ∙ r) ∙ ap (λ (z : TableMeans). z.rows) (sym tb));
         moving = stopped_rests t d.place m.profile (plain (record { drive = d; profile = m.profile; memory = stopped x })) (pos 0) (told m t) t.rows;
       })
-      (omega arith) tt tt (λ a b. absurd (both_ways _ a (sym co ∙ b)))
+      (omega arith) tt tt (λ a b. absurd (both_ways _ a (sym co ∙ b))) tt
 
   -- nothing but levels
   keeps : (e : Event) → event_of n ≡ Ok e → comes_on (told m t) e ≡ false → (l : Levels) → levels_by k.levels (Ok e) ≡ l → G (Ok e) (with_memory m (with_levels k l))
   keeps e f on l le =
       good_by Nothing t.rows (ap (event_effect (told m t)) f ∙ ap (λ b. cond b Stops Nothing) on) refl refl refl (ap (levels_by k.levels) f ∙ le) refl
-      (record { rows = h.rows; moving = (quiet m t h).moving }) (omega arith) tt tt (λ a b. absurd (both_ways _ a b))
+      (record { rows = h.rows; moving = (quiet m t h).moving }) (omega arith) tt tt (λ a b. absurd (both_ways _ a b)) tt
 
   limits : (way : Direction) → event_of n ≡ Ok (event.Limit way true) → (b : Bool) → is_clear k.levels.limits way ≡ b
       → G (Ok (event.Limit way true)) (with_memory m (cond b (limited (with_levels k (with_level k.levels way true))) k))
@@ -155,7 +155,7 @@ module _ (g : ℕ) (m : AxisMeans) (t : Trace) (n : ℤ) (ws : List ℤ) (h : Ho
       on false e =
           good_by Stops t.rows (ap (event_effect (told m t)) f ∙ ap (λ b. cond b Stops Nothing) c) refl refl refl (ap (levels_by k.levels) f) refl
           (record { rows = h.rows; moving = rests_limited k.state (told m t) t.rows (plain (with_memory m x)) k.table m.drive.place m.profile t e refl h.moving })
-          (omega arith) tt tt (λ a b. absurd (both_ways _ a b))
+          (omega arith) tt tt (λ a b. absurd (both_ways _ a b)) tt
   limits way f false c = keeps (event.Limit way true) f c k.levels (same_level k.levels way c)
 
   estops : event_of n ≡ Ok (event.EStop true) → (b : Bool) → k.levels.estop ≡ b
@@ -172,7 +172,7 @@ module _ (g : ℕ) (m : AxisMeans) (t : Trace) (n : ℤ) (ws : List ℤ) (h : Ho
 
   on_event : (e : Result Event Refusal) → event_of n ≡ e → G e (after_of m e)
   on_event (Err why) f =
-      good_by Nothing t.rows (ap (event_effect (told m t)) f) refl refl refl (ap (levels_by k.levels) f) refl (quiet m t h) (omega arith) tt tt (λ a b. absurd (both_ways _ a b))
+      good_by Nothing t.rows (ap (event_effect (told m t)) f) refl refl refl (ap (levels_by k.levels) f) refl (quiet m t h) (omega arith) tt tt (λ a b. absurd (both_ways _ a b)) tt
   on_event (Ok (event.Limit way true)) f = limits way f (is_clear k.levels.limits way) refl
   on_event (Ok (event.Limit way false)) f = keeps (event.Limit way false) f refl (with_level k.levels way false) refl
   on_event (Ok (event.EStop true)) f = estops f k.levels.estop refl

@@ -8,6 +8,7 @@ use Rattle.unrefused.proofs.Fitness.{drives_take_all}
 use Rattle.unrefused.specs.Fits.{Fit, TakesAll}
 use Rattle.axis.specs.Axes.{AxisMeans, powered_up}
 use Rattle.axis.specs.Readings.{status_words}
+use Rattle.axis.proofs.Readings.{position_decoded}
 use Rattle.law.proofs.Blocks.{block_good}
 use Rattle.law.proofs.Easings.{tick_good}
 use Rattle.law.proofs.Facts.{plain, Trace, told, trace_of, Holds}
@@ -48,7 +49,7 @@ module _ (g : ℕ) (all : TakesAll g) where
       let v : view_of (seen_of m') ≡ plain m' = view_is m' here in
       subst P (sym e)
       (record {
-        law = subst (λ x. Law g a c r (status_words m') x) (sym v) (law_of f q);
+        law = subst (λ x. Law g a c r (status_words m') x) (sym v) (law_of f (position_decoded m'.drive.place here) q);
         besides = trace_of (account_after a c r (plain m'));
         account = ap (account_after a c r) v ∙ same_account q;
         holds = q.holds;

@@ -25,7 +25,7 @@ use Rattle.law.proofs.Legs.{some_steps}
 use Rattle.law.specs.Accounts.{Account, Moves, ordered, accepted_effect, kept_after, levels_after, start_after, rows_after, row_leg, sum_of}
 use Rattle.law.specs.Calls.{Call, Replied}
 use Rattle.law.specs.Journeys.{Leg, on, leg_end, set_out, later_ticks, move_ticks}
-use Rattle.law.specs.Law.{CallLaw}
+use Rattle.law.specs.Law.{CallLaw, Stands}
 
 -- the account of an axis whose kept word was another before the block
 abbrev pub older : AxisMeans → Trace → ℕ → Account
@@ -58,9 +58,10 @@ pub move_good :
     → accepted_effect (older k t w) c (Replied (Ok tt)) ≡ Moves to (record { legs = legs; pause = pause })
     → rows_after t.rows (ordered w c true) ≡ t.rows
     → kept_after w c ≡ k.memory.kept → levels_after k.memory.levels c ≡ k.memory.levels → start_after k.memory.table.start c true ≡ k.memory.table.start
+    → Stands (older k t w) (Moves to (record { legs = legs; pause = pause }))
     → CallLaw g (older k t w) c (Replied (Ok tt)) ws (plain (began k (record { direction = leg.way; kind = kind }) p))
     → Good g (older k t w) c (Replied (Ok tt)) ws (began k (record { direction = leg.way; kind = kind }) p)
-move_good g k t w c ws to leg ls legs pause kind p h is_legs is_later is_pause aims ends b s ef ro ke le st ca =
+move_good g k t w c ws to leg ls legs pause kind p h is_legs is_later is_pause aims ends b s ef ro ke le st sd ca =
     let m' = began k (record { direction = leg.way; kind = kind }) p in
     let plan : p.plan ≡ Some leg.plan = ap (λ (y : ProfileMeans). y.plan) b.after in
     let asked : p.asked ≡ 1000 * plan_steps leg.plan = ap (λ (y : ProfileMeans). y.asked) b.after in
@@ -88,7 +89,7 @@ move_good g k t w c ws to leg ls legs pause kind p h is_legs is_later is_pause a
         free = refl;
       };
     })
-    (omega arith) ca refl (λ x y. absurd (false≢true y))
+    (omega arith) ca refl (λ x y. absurd (false≢true y)) sd
 
 -- where the legs of some rows end
 one_row : (r : Row) → steps_of (r ∷ []) ≡ r.steps

@@ -26,7 +26,7 @@ use Rattle.law.proofs.Legs.{some_steps, legs_next, legs_over, sent_there, takes_
 use Rattle.law.specs.Accounts.{Timing, Rest, account_after, one_more, sending, is_over}
 use Rattle.law.specs.Calls.{Tick, Sent}
 use Rattle.law.specs.Journeys.{Leg, Journey, none, on, waiting, held, along, leg_end, later_ticks, on_leg, ticked, fresh, due_in}
-use Rattle.law.specs.Law.{Along, TravelsOn, Arrives, Takes}
+use Rattle.law.specs.Law.{Along, TravelsOn, Arrives, Still, Takes}
 use Rattle.law.specs.Moments.{View}
 
 -- what a tick does to a leg, whose profile meant b before it and means p after it
@@ -129,7 +129,7 @@ module _ (g : ℕ) (m : AxisMeans) (t : Trace) (way : Direction) (kind : Kind) (
 
   good : (k' : MemoryMeans) → k.kept ≡ k'.kept → k.levels ≡ k'.levels → k.table ≡ k'.table → Programmed t (after k')
       → Moving k'.state (trace_of (account_after (told m t) Tick (Sent n) (plain (after k')))) k'.table d'.place p
-      → Arrives (told m t) (plain (after k')) → P k'
+      → Arrives (told m t) (account_after (told m t) Tick (Sent n) (plain (after k'))).journey (plain (after k')) → P k'
   good k' e₁ e₂ e₃ rows moving arrives =
       record {
         counted = sym (stands g m.drive o.from o.leg way b p o.r o.leg_is o.ticks o.sound o.taken);
@@ -145,6 +145,7 @@ module _ (g : ℕ) (m : AxisMeans) (t : Trace) (way : Direction) (kind : Kind) (
         };
         clears = tt;
         arrives = arrives;
+        stands = tt;
       }
 
   over : is_over (plain (after k)) ≡ eqb p.left 0
@@ -183,13 +184,14 @@ module _ (g : ℕ) (m : AxisMeans) (t : Trace) (way : Direction) (kind : Kind) (
   -- the last leg is over
   ends_move : eqb p.left 0 ≡ true → later k.table kind ≡ [] → P (completed k)
   ends_move e last =
+      let over : ticked (is_over (plain (after (completed k)))) t.journey ≡ none = journey_next true e ∙ ap (λ ls. on_leg true o.from o.leg ls (pause_of kind)) last in
       good (completed k) refl refl refl o.rows
       (record {
-        journey = subst (λ j. AtRest j d'.place p) (sym (journey_next true e ∙ ap (λ ls. on_leg true o.from o.leg ls (pause_of kind)) last)) tt;
+        journey = subst (λ j. AtRest j d'.place p) (sym over) tt;
         over = refl;
         slows = subst (λ x. Rests x 0) (sym (free_next t.resting n o.free)) tt;
       })
-      (λ x y. at_end e ∙ subst (λ ls. legs_end (leg_end o.from o.leg) ls ≡ t.sent_to) last o.ends)
+      (λ x y. (at_end e ∙ subst (λ ls. legs_end (leg_end o.from o.leg) ls ≡ t.sent_to) last o.ends, subst (λ j. Still j (plain (after (completed k)))) (sym over) tt))
 
 -- a row is over, and not the last
 ends_row :
@@ -398,6 +400,7 @@ wait_tick g m t next ticks ws h rows l =
       };
       clears = tt;
       arrives = λ x y. absurd (both_ways _ x y);
+      stands = tt;
     }
 
 -- a tick at rest
@@ -417,7 +420,7 @@ at_rest_travels : (j : Journey) (v : View) → AtRest j v.position v.profile →
 at_rest_travels none v h = tt
 at_rest_travels (on x l ls w) v h = absurd h
 at_rest_travels (waiting u x l ls w) v h = absurd h
-at_rest_travels (held x l) v h = h
+at_rest_travels (held x l) v h = (h.0, h.1)
 
 pub one_more_none : (c : Bool) (u : Option Timing) → u ≡ None → cond c None (one_more u) ≡ None
 one_more_none true u e = refl
@@ -457,4 +460,5 @@ rest_tick g m t ws rows h moves =
       };
       clears = tt;
       arrives = λ x y. absurd (both_ways _ x y);
+      stands = tt;
     }

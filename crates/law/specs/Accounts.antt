@@ -47,7 +47,7 @@ pub record Account : Type 0 where
   pub kept : ℕ
   -- the levels of the inputs, by the events
   pub levels : Levels
-  -- the starting speed of the last accepted set-up; before any no move is accepted
+  -- the starting speed of the last accepted set-up, 1 before the first
   pub start : ℕ
   -- the latest programming: the Segments accepted since the last accepted Program
   pub rows : List Segment

@@ -1,9 +1,8 @@
 -- Short runs, told moment by moment, that meet what the clauses of the law speak of: a move under way, a pause, a hold, a full stop, a
 -- move that completes. So no clause is empty. Starting speed, acceleration and deceleration are 100 in each.
-use Rattle.std.specs.Prelude.{ℕ, ◌+◌, Bool, true, false, cond, ◌&&◌, List, [], ◌∷◌, ◌++◌, ℤ, pos, Some, None, Ok, Option, ◌==◌}
+use Rattle.std.specs.Prelude.{ℕ, ◌+◌, Bool, true, false, cond, ◌&&◌, List, [], ◌∷◌, ◌++◌, pos, Some, None, Ok, Option, ◌==◌}
 use Rattle.drive.specs.Positions.{distance}
 use Rattle.profile.specs.Plans.{PlanMeans}
-use Rattle.profile.specs.declared.row.Row.{Row}
 use Rattle.law.specs.Accounts.{Account, Timing, Rest, first_account, account_after}
 use Rattle.law.specs.Calls.{Call, SetUp, Block, Event, Tick, Answer, Replied, Sent}
 use Rattle.law.specs.Journeys.{Journey, none, on, waiting, held}

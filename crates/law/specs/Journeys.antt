@@ -35,13 +35,13 @@ move_ticks lag pause [] = 0
 move_ticks lag pause (l ∷ ls) = plan_ticks l.plan lag + later_ticks lag pause ls
 
 pub data Journey : Type 0 where
-  -- no plan is in motion, and none was held
+  -- nothing to travel: before the first move, after its end, after a full stop, a preset, or a hold in a pause
   none : Journey
   -- on a leg that set out from a place; the legs after it, and the pause before each of them
   on : (from : ℤ) → Leg → List Leg → (pause : ℕ) → Journey
   -- in a pause at a place: the ticks waited, the next leg, the legs after it and the pause
   waiting : (waited : ℕ) → (at : ℤ) → Leg → List Leg → (pause : ℕ) → Journey
-  -- held, on a leg that set out from a place: coming to rest, or at rest
+  -- after a hold on a leg that set out from a place: coming to rest, or at rest
   held : (from : ℤ) → Leg → Journey
 
 -- a move sets out

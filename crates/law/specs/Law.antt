@@ -2,6 +2,8 @@
 use Rattle.std.specs.Prelude.{◌≡◌, ℕ, ◌<◌, ◌≤◌, true, false, cond, List, [], ◌∷◌, ◌++◌, drop, ℤ, Some, None, Ok, Option, MatchBool, ◌==◌, nat_lt, unsigned_abs}
 use Rattle.drive.specs.Drives.{DriveMeans, landing}
 use Rattle.profile.specs.Profiles.{fastest, up_div}
+use Rattle.block.specs.Frames.{pair_at}
+use Rattle.block.specs.Pairs.{decoded}
 use Rattle.axis.specs.Readings.{is_short, reading_answer}
 use Rattle.law.specs.Accounts.{Account, Timing, Rest, Effect, Moves, Holds, Stops, Presets, Ticks, Nothing, accepted_effect, account_after, is_over}
 use Rattle.law.specs.Calls.{Call, SetUp, Block, Event, Tick, Reading, Answer, Sent, Read, steps_in}
@@ -12,23 +14,23 @@ use Rattle.law.specs.Moments.{Moment, View, view_of}
 abbrev pub Along : ℤ → Leg → View → Type 0
 Along x l v = (v.profile.plan ≡ Some l.plan) × (v.position ≡ along x l v.profile.gone)
 
--- Where the journey is: on a leg, also while it is held, the position keeps up with gone; in a pause the leg before is over, the position
--- is its end, and not more than the pause has been waited.
+-- Where the journey is: on a leg, also while it is held, the position keeps up with gone; in a pause the leg before is over, and the
+-- position is its end.
 abbrev pub Travels : Journey → View → Type 0
 Travels none v = Unit {0}
 Travels (on x l ls w) v = Along x l v
-Travels (waiting u x l ls w) v = (is_over v ≡ true) × (v.position ≡ x) × (u ≤ w)
+Travels (waiting u x l ls w) v = (is_over v ≡ true) × (v.position ≡ x)
 Travels (held x l) v = Along x l v
 
--- What the journey says of a tick that comes next: it is on the leg, or it is in the pause, or after the whole pause it is on the next
--- leg. So a leg of one tick shows its plan too.
+-- What the journey says of a tick that comes next: it is on the leg, or it is in the pause, or after the whole pause, neither earlier nor
+-- later, it is on the next leg. So a leg of one tick shows its plan too.
 abbrev pub TravelsOn : Journey → View → Type 0
 TravelsOn none v = Unit {0}
 TravelsOn (on x l ls w) v = Along x l v
 TravelsOn (waiting u x l ls w) v = MatchBool (nat_lt u w) ((is_over v ≡ true) × (v.position ≡ x)) (Along x l v)
 TravelsOn (held x l) v = Along x l v
 
--- steps that the drive takes; no steps are not delivered to it
+-- steps that the drive takes; where there are none it is not called
 abbrev pub Takes : ℕ → DriveMeans → ℤ → ℤ → Type 0
 Takes g d n to = MatchBool (unsigned_abs n == 0) (Unit {0}) (landing g d n ≡ Ok to)
 
@@ -69,14 +71,38 @@ abbrev pub InTime : Option Timing → Type 0
 InTime None = Unit {0}
 InTime (Some t) = t.passed < t.allowed
 
--- where Move_Complete comes on, the position is where the move was sent
-abbrev pub Arrives : Account → View → Type 0
-Arrives a v = a.view.complete ≡ false → v.complete ≡ true → v.position ≡ a.sent_to
+-- Nothing moves: there is no journey, or it was held and is at rest.
+abbrev pub Still : Journey → View → Type 0
+Still none v = Unit {0}
+Still (on x l ls w) v = ⊥
+Still (waiting u x l ls w) v = ⊥
+Still (held x l) v = is_over v ≡ true
+
+-- a leg is travelled, or the pause after one
+abbrev pub Travelling : Journey → Type 0
+Travelling none = ⊥
+Travelling (on x l ls w) = Unit {0}
+Travelling (waiting u x l ls w) = Unit {0}
+Travelling (held x l) = ⊥
+
+-- Only a hold and a full stop stop a move: a move and a preset are accepted only where nothing moves and no move is under way, a hold only
+-- where a leg or a pause is travelled.
+abbrev pub Stands : Account → Effect → Type 0
+Stands a (Moves to r) = (a.underway ≡ None) × Still a.journey a.view
+Stands a Holds = Travelling a.journey
+Stands a Stops = Unit {0}
+Stands a (Presets p) = (a.underway ≡ None) × Still a.journey a.view
+Stands a Ticks = Unit {0}
+Stands a Nothing = Unit {0}
+
+-- where Move_Complete comes on, the position is where the move was sent, and nothing of the journey is left
+abbrev pub Arrives : Account → Journey → View → Type 0
+Arrives a j v = a.view.complete ≡ false → v.complete ≡ true → (v.position ≡ a.sent_to) × Still j v
 
 -- no more ticks have sent steps than may
-abbrev pub Slow : Option Rest → Type 0
-Slow None = Unit {0}
-Slow (Some s) = s.sent ≤ s.allowed
+abbrev pub Settles : Option Rest → Type 0
+Settles None = Unit {0}
+Settles (Some s) = s.sent ≤ s.allowed
 
 -- The law of one moment, after the account a, whose status words are ws.
 pub record Law (g : ℕ) (a : Account) (c : Call) (r : Answer) (ws : List ℤ) (v : View) : Type 0 where
@@ -85,16 +111,19 @@ pub record Law (g : ℕ) (a : Account) (c : Call) (r : Answer) (ws : List ℤ) (
   pub counts : (v.position ≡ (account_after a c r v).counted) × (v.drive.place ≡ (account_after a c r v).counted)
   -- a call sends at most the plan's top in whole steps, rounded up
   pub slow : unsigned_abs (steps_in r) ≤ up_div (fastest v.profile.plan) 1000
-  -- each tick sends exactly the whole steps of gone that were not sent before
+  -- the words of the position are a pair
+  pub pair : decoded (pair_at ws 2) ≡ Some v.position
+  -- each tick sends exactly the whole steps of gone that were not sent before, and a reading tells what is to be seen
   pub call : CallLaw g a c r ws v
   -- a move travels its legs in order, each with exactly its plan, and each pause has exactly its ticks
   pub travels : Travels (account_after a c r v).journey v
   -- a move that nothing stops ends within its ticks, exactly where it was sent
   pub clears : Clears (accepted_effect a c r) v
   pub in_time : InTime (account_after a c r v).underway
-  pub arrives : Arrives a v
+  pub arrives : Arrives a (account_after a c r v).journey v
+  pub stands : Stands a (accepted_effect a c r)
   -- after a hold only so many ticks send steps, and after a full stop none, until the next accepted move
-  pub rests : Slow (account_after a c r v).resting
+  pub rests : Settles (account_after a c r v).resting
 
 -- each moment of a run keeps the law, after those before it
 abbrev pub Lawful : ℕ → Account → List Moment → Type 0
