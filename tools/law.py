@@ -105,6 +105,15 @@ def joined(first, second):
     return 1000 * first + second
 
 
+def decoded(first, second):
+    """The number that two words say, if they are a pair."""
+    return None if first * second < 0 or abs(second) >= 1000 else joined(first, second)
+
+
+def pair_at(words, k):
+    return words[k], words[k + 1]
+
+
 @record
 class Framed:
     """A block that can be read: ten words, and no bit without a meaning."""
@@ -624,8 +633,8 @@ def Travels(journey, v):
     match journey:
         case on(x, leg, _, _) | held(x, leg):
             return Along(x, leg, v)
-        case waiting(waited, x, _, _, pause):
-            return is_over(v) and v.position == x and waited <= pause
+        case waiting(_, x, _, _, _):
+            return is_over(v) and v.position == x
     return True
 
 
@@ -678,11 +687,33 @@ def InTime(underway):
     return underway is None or underway.passed < underway.allowed
 
 
-def Arrives(a, v):
-    return a.view.complete or not v.complete or v.position == a.sent_to
+def Still(journey, v):
+    match journey:
+        case on() | waiting():
+            return False
+        case held():
+            return is_over(v)
+    return True
 
 
-def Slow(resting):
+def Travelling(journey):
+    return isinstance(journey, (on, waiting))
+
+
+def Stands(a, e):
+    match e:
+        case Moves() | Presets():
+            return a.underway is None and Still(a.journey, a.view)
+        case Holds():
+            return Travelling(a.journey)
+    return True
+
+
+def Arrives(a, journey, v):
+    return a.view.complete or not v.complete or v.position == a.sent_to and Still(journey, v)
+
+
+def Settles(resting):
     return resting is None or resting.sent <= resting.allowed
 
 
@@ -692,6 +723,8 @@ def Law(g, a, call, answer, words, v, after):
         yield "counts"
     if not abs(steps_in(answer)) <= up_div(fastest(v.profile.plan), 1000):
         yield "slow"
+    if decoded(*pair_at(words, 2)) != v.position:
+        yield "pair"
     yield from CallLaw(g, a, call, answer, words, v)
     if not Travels(after.journey, v):
         yield "travels"
@@ -699,9 +732,11 @@ def Law(g, a, call, answer, words, v, after):
         yield "clears"
     if not InTime(after.underway):
         yield "in_time"
-    if not Arrives(a, v):
+    if not Arrives(a, after.journey, v):
         yield "arrives"
-    if not Slow(after.resting):
+    if not Stands(a, accepted_effect(a, call, answer)):
+        yield "stands"
+    if not Settles(after.resting):
         yield "rests"
 
 

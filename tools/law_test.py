@@ -1038,7 +1038,7 @@ WRONG.append(("a profile that stops before its last step", {"axis": Taken, "driv
 WRONG.append(("a profile that asks for a step less", {"axis": Taken, "drive": Drive, "profile": over(Short)}))
 
 
-# ---- Of which the law says nothing
+# ---- Of which the law says little or nothing
 
 @beyond("answers 4 to everything")
 class AnswersFour(Taken):
@@ -1052,13 +1052,13 @@ class AnswersFour(Taken):
         return 4
 
 
-@beyond("accepts a move while one is under way")
+@wrong("accepts a move while one is under way")
 class Overtakes(Taken):
     def is_allowed(self, command):
         return super().is_allowed(command) or self.state == "Running" and command in ["Absolute", "Relative"]
 
 
-@beyond("a dwell move is complete as soon as it passes its target")
+@wrong("a dwell move is complete as soon as it passes its target")
 class Passes(Taken):
     def deliver(self, steps):
         answer = super().deliver(steps)
@@ -1082,7 +1082,7 @@ class HoldNoComplete(Taken):
         self.flags["Move_Complete"] = False
 
 
-@beyond("a hold stops dead")
+@wrong("a hold stops dead")
 class StopsDead(Taken):
     def hold(self):
         if self.paused:
@@ -1189,7 +1189,7 @@ class ReadsErrors(Taken):
         return super().reading(buffer)
 
 
-@beyond("a position told by words that are no pair")
+@wrong("a position told by words that are no pair")
 class NoPair(Taken):
     def status_words(self):
         words = super().status_words()
