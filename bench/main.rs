@@ -1,6 +1,15 @@
 // Runs plans by the proved library and by a plain Rust writing of the same rules, compares what they answer, and times both.
 //
 // Speeds are in millisteps a tick. A plan has a starting speed S, an acceleration A, a deceleration D and rows of steps and speed.
+mod axes;
+mod calls;
+mod jobs;
+mod library;
+// The comparison asks more of it.
+#[allow(dead_code)]
+mod plain;
+mod replay;
+
 use std::hint::black_box;
 use std::time::{Duration, Instant};
 
@@ -328,7 +337,8 @@ fn main() {
         }
     }
     println!("worst: {worst:.2} times the plain Rust time per tick");
-    if !same {
+    let axes = axes::measure();
+    if !same || !axes.same {
         std::process::exit(1);
     }
 }
