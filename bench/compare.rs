@@ -36,7 +36,11 @@ struct Difference {
 
 // The first difference between what is expected of a list and what was answered.
 fn first_difference(script: &Script, proved: &[i32]) -> Option<Difference> {
-    let at = script.answers.iter().zip(proved).position(|(a, b)| a != b)?;
+    let at = script
+        .answers
+        .iter()
+        .zip(proved)
+        .position(|(a, b)| a != b)?;
     let mut text = format!("{}\n", script.bed);
     let mut rest = &script.list.bytes[..];
     let mut from = 0;
@@ -66,13 +70,24 @@ fn around(answers: &[i32], answer: usize) -> &[i32] {
 }
 
 fn report(seed: u64, difference: &Difference) {
-    println!("seed {seed}: call {} differs, in its answer {}:", difference.call, difference.answer);
+    println!(
+        "seed {seed}: call {} differs, in its answer {}:",
+        difference.call, difference.answer
+    );
     println!("  {}", difference.text);
-    println!("  plain  .. {:?}", around(&difference.plain, difference.answer));
-    println!("  proved .. {:?}", around(&difference.proved, difference.answer));
+    println!(
+        "  plain  .. {:?}",
+        around(&difference.plain, difference.answer)
+    );
+    println!(
+        "  proved .. {:?}",
+        around(&difference.proved, difference.answer)
+    );
     let file = format!("target/bench/{seed}.calls");
     match std::fs::write(&file, &difference.script) {
-        Ok(()) => println!("  the calls up to it are in {file}; bench/compare {seed} makes them again"),
+        Ok(()) => {
+            println!("  the calls up to it are in {file}; bench/compare {seed} makes them again")
+        }
         Err(error) => println!("  {file}: {error}"),
     }
 }
@@ -121,7 +136,10 @@ fn main() -> ExitCode {
         .filter(|&seed| !compare(seed, &mut tally, &mut proved))
         .count();
     tally.print();
-    println!("seeds {first} to {}: {different} lists differ", first + count - 1);
+    println!(
+        "seeds {first} to {}: {different} lists differ",
+        first + count - 1
+    );
     if different == 0 {
         ExitCode::SUCCESS
     } else {

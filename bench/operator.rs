@@ -144,7 +144,8 @@ impl<D: Drive, P: Profile> Operator<'_, D, P> {
         let after = self.axis.state();
         if before != after {
             let completed = self.axis.flags().move_complete;
-            self.tally.passage(before, after, self.axis.task(), completed);
+            self.tally
+                .passage(before, after, self.axis.task(), completed);
         }
         self.answers.push(steps);
     }
@@ -186,7 +187,9 @@ impl<D: Drive, P: Profile> Operator<'_, D, P> {
 
     // A distance: few steps, so that many moves end.
     fn way(&mut self) -> i32 {
-        let kind = self.random.weighted(&[(50, 0), (25, 1), (8, 2), (2, 3), (2, 4), (3, 5)]);
+        let kind = self
+            .random
+            .weighted(&[(50, 0), (25, 1), (8, 2), (2, 3), (2, 4), (3, 5)]);
         let size = match kind {
             0 => self.random.between(1, 12),
             1 => self.random.sized(400),
@@ -201,7 +204,10 @@ impl<D: Drive, P: Profile> Operator<'_, D, P> {
     fn speed(&mut self) -> i32 {
         let start = self.axis.start() as i32;
         let top = self.top();
-        match self.random.weighted(&[(85, 0), (5, 1), (5, 2), (1, 3), (1, 4), (1, 5)]) {
+        match self
+            .random
+            .weighted(&[(85, 0), (5, 1), (5, 2), (1, 3), (1, 4), (1, 5)])
+        {
             0 => (start + self.random.sized(top) - 1).min(top),
             1 => start,
             2 => top,
@@ -213,7 +219,10 @@ impl<D: Drive, P: Profile> Operator<'_, D, P> {
 
     fn start(&mut self) -> i32 {
         let top = self.top();
-        match self.random.weighted(&[(60, 0), (25, 1), (5, 2), (3, 3), (3, 4), (2, 5)]) {
+        match self
+            .random
+            .weighted(&[(60, 0), (25, 1), (5, 2), (3, 3), (3, 4), (2, 5)])
+        {
             0 => self.random.between(50, 2000),
             1 => self.random.sized(top),
             2 => top,
@@ -224,7 +233,10 @@ impl<D: Drive, P: Profile> Operator<'_, D, P> {
     }
 
     fn rate(&mut self) -> i16 {
-        match self.random.weighted(&[(48, 0), (48, 1), (1, 2), (1, 3), (1, 4)]) {
+        match self
+            .random
+            .weighted(&[(48, 0), (48, 1), (1, 2), (1, 3), (1, 4)])
+        {
             0 => self.random.sized(5000) as i16,
             1 => self.random.between(20, 500) as i16,
             2 => 5000,
@@ -234,7 +246,10 @@ impl<D: Drive, P: Profile> Operator<'_, D, P> {
     }
 
     fn dwell(&mut self) -> i16 {
-        match self.random.weighted(&[(70, 0), (20, 1), (5, 2), (1, 3), (1, 4)]) {
+        match self
+            .random
+            .weighted(&[(70, 0), (20, 1), (5, 2), (1, 3), (1, 4)])
+        {
             0 => self.random.between(0, 6) as i16,
             1 => self.random.sized(300) as i16,
             2 => self.random.sized(30_000) as i16,
@@ -419,10 +434,13 @@ impl<D: Drive, P: Profile> Operator<'_, D, P> {
                 (5, Ticks),
                 (5, Release),
             ]),
-            State::Idle if self.is_inhibited() => {
-                self.random
-                    .weighted(&[(60, Free), (20, AnyCommand), (10, Event), (5, SetUp), (5, Ticks)])
-            }
+            State::Idle if self.is_inhibited() => self.random.weighted(&[
+                (60, Free),
+                (20, AnyCommand),
+                (10, Event),
+                (5, SetUp),
+                (5, Ticks),
+            ]),
             State::Idle if self.axis.table().is_empty() => self.random.weighted(&[
                 (5, SetUp),
                 (6, Command(PRESET)),
@@ -580,7 +598,24 @@ impl OnAxis for Acts<'_> {
 
 // The lengths of smoothings: 0 counts as 1, and more than 64 as 64.
 fn length(random: &mut Random) -> u32 {
-    random.pick(&[0, 1, 2, 3, 4, 5, 7, 8, 16, 31, 32, 63, 64, 65, 1000, u32::MAX])
+    random.pick(&[
+        0,
+        1,
+        2,
+        3,
+        4,
+        5,
+        7,
+        8,
+        16,
+        31,
+        32,
+        63,
+        64,
+        65,
+        1000,
+        u32::MAX,
+    ])
 }
 
 // The list of a seed: its bed, its calls and what the plain axis answers.

@@ -90,8 +90,17 @@ impl Tally {
     }
 
     fn others(&self) -> u64 {
-        let all = [&self.set_ups[..], &self.blocks, &self.readings, &self.events];
-        all.iter().flat_map(|rows| rows.iter()).map(total).sum::<u64>() + total(&self.looks)
+        let all = [
+            &self.set_ups[..],
+            &self.blocks,
+            &self.readings,
+            &self.events,
+        ];
+        all.iter()
+            .flat_map(|rows| rows.iter())
+            .map(total)
+            .sum::<u64>()
+            + total(&self.looks)
     }
 
     // Calls that are compared: each tick is one.
@@ -108,7 +117,11 @@ impl Tally {
         print_answers("block", &self.blocks);
         print_answers("reading", &self.readings);
         for (code, row) in self.events.iter().enumerate().skip(1) {
-            let code = if code < 8 { code.to_string() } else { "unknown".into() };
+            let code = if code < 8 {
+                code.to_string()
+            } else {
+                "unknown".into()
+            };
             print_row(&format!("event {code}"), row);
         }
         print_row("tick that sends none", &self.quiet_ticks);

@@ -206,9 +206,7 @@ impl<D: Drive, P: Profile> Axis<D, P> {
             Command::ResetErrors => at_rest,
             Command::Hold => matches!(self.state, State::Running | State::Pausing { .. }),
             Command::Resume => self.state == State::Held,
-            Command::Segment => {
-                self.state == State::Programming && self.table.len() < MAX_ROWS
-            }
+            Command::Segment => self.state == State::Programming && self.table.len() < MAX_ROWS,
             Command::Absolute | Command::Relative | Command::Preset | Command::Program => {
                 at_rest && is_set_up
             }
@@ -254,7 +252,11 @@ impl<D: Drive, P: Profile> Axis<D, P> {
     fn run_blend(&mut self, words: &Words) -> Result<(), Refusal> {
         let rates = block::rates(words)?;
         self.check_free()?;
-        let direction = if block::is_counterclockwise(words) { -1 } else { 1 };
+        let direction = if block::is_counterclockwise(words) {
+            -1
+        } else {
+            1
+        };
         let rows: Vec<Row> = self.table.iter().map(|segment| segment.row()).collect();
         let steps: i64 = rows.iter().map(|row| row.steps as i64).sum();
         self.check_end(self.drive.place() as i64 + direction as i64 * steps)?;
@@ -537,9 +539,8 @@ impl<D: Drive, P: Profile> Axis<D, P> {
 
     fn status(&self) -> i16 {
         let programming = self.state == State::Programming;
-        let waiting = programming
-            && self.table.len() < MAX_ROWS
-            && self.kept & block::SEGMENT_BIT == 0;
+        let waiting =
+            programming && self.table.len() < MAX_ROWS && self.kept & block::SEGMENT_BIT == 0;
         let moving = self.is_moving();
         let leg = &self.leg;
         bits(&[

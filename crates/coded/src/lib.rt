@@ -5,3 +5,5 @@ pub mod bed;
 pub mod call;
 pub mod run;
 mod shown;
+#[cfg(test)]
+mod tests;
