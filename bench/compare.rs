@@ -11,7 +11,7 @@ mod plain;
 mod random;
 mod tally;
 
-use calls::Call;
+use calls::{Bed, Call};
 use operator::Script;
 use std::process::ExitCode;
 use tally::Tally;
@@ -111,6 +111,34 @@ fn compare(seed: u64, tally: &mut Tally, proved: &mut Vec<i32>) -> bool {
     }
 }
 
+// Whether the library refuses what it cannot make by the numbers that it says, and writes nothing: a bed that there is not, bytes that are no
+// call, and answers for which there is no room.
+fn refuses() -> bool {
+    let bed = |drive, profile| Bed {
+        drive,
+        profile,
+        outer: 4,
+        inner: 4,
+    };
+    let cases: [(Bed, &[u8], u8); 6] = [
+        (bed(2, 0), &[5], 1),
+        (bed(0, 6), &[5], 1),
+        (bed(0, 0), &[6], 2),
+        (bed(0, 0), &[0, 1], 2),
+        (bed(0, 0), &[5], 3),
+        (bed(0, 0), &[3, 3, 0], 3),
+    ];
+    cases.iter().all(|&(bed, calls, number)| {
+        let mut out = [UNWRITTEN; 2];
+        let status = library::run_calls(bed, calls, &mut out);
+        let holds = status == number && out == [UNWRITTEN; 2];
+        if !holds {
+            println!("{calls:?}: {status} in place of {number}, and {out:?} written");
+        }
+        holds
+    })
+}
+
 // The first seed and how many lists to make.
 fn seeds() -> Option<(u64, u64)> {
     let numbers: Vec<u64> = std::env::args()
@@ -135,12 +163,13 @@ fn main() -> ExitCode {
     let different = (first..first + count)
         .filter(|&seed| !compare(seed, &mut tally, &mut proved))
         .count();
+    let refuses = refuses();
     tally.print();
     println!(
         "seeds {first} to {}: {different} lists differ",
         first + count - 1
     );
-    if different == 0 {
+    if different == 0 && refuses {
         ExitCode::SUCCESS
     } else {
         ExitCode::FAILURE
