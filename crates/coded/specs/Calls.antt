@@ -1,5 +1,5 @@
 -- Calls as bytes: how many words they answer, and when the first of a list cannot be made.
-use Rattle.std.specs.Prelude.{◌≡◌, ℕ, ◌+◌, ◌*◌, ◌<◌, ◌⊎◌, ◌==◌, List, length, slice_index, cond}
+use Rattle.std.specs.Prelude.{ℕ, ◌+◌, ◌*◌, ◌<◌, ◌⊎◌, ◌==◌, List, length, slice_index, cond}
 use Rattle.coded.specs.declared.call.Call.{Call}
 use Rattle.coded.specs.declared.call.Call.TheVariants.{SetUp, Block, Event, Ticks, Reading, Drive}
 
