@@ -1,8 +1,19 @@
-// Runs plans by the proved library and by a plain Rust writing of the same rules, compares what they answer, and times both.
+// Runs plans and whole axes by the proved library and by a plain Rust writing of the same rules, compares what they answer, and times both.
 //
 // Speeds are in millisteps a tick. A plan has a starting speed S, an acceleration A, a deceleration D and rows of steps and speed.
+mod axes;
+mod calls;
+mod jobs;
+mod library;
+// The comparison asks more of it.
+#[allow(dead_code)]
+mod plain;
+mod replay;
+
 use std::hint::black_box;
 use std::time::{Duration, Instant};
+
+use plain::profile::{self, Profile, Ramp, Row, Smoothing};
 
 #[link(name = "bench", kind = "static")]
 extern "C" {
@@ -35,164 +46,24 @@ struct Plan {
     rows: Vec<u32>,
 }
 
-trait Profile {
-    fn tick(&mut self) -> u32;
-    fn gone(&self) -> u64;
-    fn asked(&self) -> u64;
-
-    fn done(&self) -> bool {
-        self.gone() == self.asked()
-    }
-}
-
-struct Row {
-    // The millisteps up to the end of the row, from the beginning of the plan.
-    end: u64,
-    speed: u32,
-}
-
-struct Ramp {
-    start: u32,
-    accel: u32,
-    decel: u32,
-    rows: Vec<Row>,
-    // The row that holds the next millistep.
-    row: usize,
-    asked: u64,
-    gone: u64,
-    last: u32,
-}
-
-impl Ramp {
-    fn new(plan: &Plan) -> Ramp {
-        let mut end = 0;
-        let rows = plan
-            .rows
-            .chunks_exact(2)
-            .map(|pair| {
-                end += 1000 * pair[0] as u64;
-                Row {
-                    end,
-                    speed: pair[1],
-                }
-            })
-            .collect();
-        Ramp {
-            start: plan.start,
-            accel: plan.accel,
-            decel: plan.decel,
-            rows,
-            row: 0,
-            asked: end,
-            gone: 0,
-            last: 0,
-        }
-    }
-
-    // How far a speed and the braking from it go.
-    fn stopping(&self, speed: u32) -> u64 {
-        if speed <= self.start {
-            return speed as u64;
-        }
-        let n = (speed - self.start)
-            .div_ceil(self.decel)
-            .min(speed / self.decel) as u64;
-        speed as u64 + n * speed as u64 - self.decel as u64 * (n * (n + 1) / 2)
-    }
-}
-
-impl Profile for Ramp {
-    fn tick(&mut self) -> u32 {
-        if self.gone == self.asked {
-            return 0;
-        }
-        while self.gone >= self.rows[self.row].end {
-            self.row += 1;
-        }
-        let rest = self.asked - self.gone;
-        let speed = self.rows[self.row].speed;
-        let limit = speed
-            .max(self.last.saturating_sub(self.decel))
-            .min(self.start.max(self.last + self.accel));
-        // A search over the speeds only where the greatest does not fit already.
-        let advance = if self.stopping(limit) <= rest {
-            limit
-        } else {
-            let (mut low, mut high) = (0, limit - 1);
-            while low < high {
-                let middle = low + (high - low).div_ceil(2);
-                if self.stopping(middle) <= rest {
-                    low = middle;
-                } else {
-                    high = middle - 1;
-                }
-            }
-            low
-        };
-        self.gone += advance as u64;
-        self.last = advance;
-        advance
-    }
-
-    fn gone(&self) -> u64 {
-        self.gone
-    }
-
-    fn asked(&self) -> u64 {
-        self.asked
-    }
-}
-
-// What it has gone is the mean of what the profile below had gone after each of its last ticks.
-struct Smoothed<P> {
-    below: P,
-    ring: Vec<u64>,
-    next: usize,
-    sum: u64,
-    gone: u64,
-}
-
-impl<P: Profile> Smoothed<P> {
-    fn new(below: P, length: u32) -> Smoothed<P> {
-        Smoothed {
-            below,
-            ring: vec![0; length as usize],
-            next: 0,
-            sum: 0,
-            gone: 0,
-        }
-    }
-}
-
-impl<P: Profile> Profile for Smoothed<P> {
-    fn tick(&mut self) -> u32 {
-        self.below.tick();
-        let value = self.below.gone();
-        self.sum = self.sum + value - self.ring[self.next];
-        self.ring[self.next] = value;
-        self.next += 1;
-        if self.next == self.ring.len() {
-            self.next = 0;
-        }
-        let gone = self.sum / self.ring.len() as u64;
-        let advance = gone - self.gone;
-        self.gone = gone;
-        advance as u32
-    }
-
-    fn gone(&self) -> u64 {
-        self.gone
-    }
-
-    fn asked(&self) -> u64 {
-        self.below.asked()
-    }
-}
-
 // The ticks of a plan, and a sum over its advances in which their order counts.
-fn run_plan(mut profile: impl Profile) -> [u64; 2] {
+fn run_plan(mut profile: impl Profile, plan: &Plan) -> [u64; 2] {
+    let rows: Vec<Row> = plan
+        .rows
+        .chunks_exact(2)
+        .map(|pair| Row {
+            steps: pair[0],
+            speed: pair[1],
+        })
+        .collect();
+    profile.begin(profile::Plan {
+        start: plan.start,
+        accel: plan.accel,
+        decel: plan.decel,
+        rows: &rows,
+    });
     let (mut ticks, mut sum) = (0u64, 0u64);
-    while !profile.done() {
+    while !profile.is_done() {
         let advance = profile.tick();
         sum = sum.wrapping_mul(31).wrapping_add(advance as u64);
         ticks += 1;
@@ -201,10 +72,9 @@ fn run_plan(mut profile: impl Profile) -> [u64; 2] {
 }
 
 fn plain(plan: &Plan, length: Option<u32>) -> [u64; 2] {
-    let ramp = Ramp::new(plan);
     match length {
-        None => run_plan(ramp),
-        Some(length) => run_plan(Smoothed::new(ramp, length)),
+        None => run_plan(Ramp::default(), plan),
+        Some(length) => run_plan(Smoothing::new(Ramp::default(), length), plan),
     }
 }
 
@@ -328,7 +198,8 @@ fn main() {
         }
     }
     println!("worst: {worst:.2} times the plain Rust time per tick");
-    if !same {
+    let axes = axes::measure();
+    if !same || !axes.same {
         std::process::exit(1);
     }
 }

@@ -1,14 +1,19 @@
-// What C and Rust can call of the benchmark. Rows stand as steps, speed, steps, speed, .. . A call writes the number of ticks and then the sum
-// over the advances to the front of `out`; where there is no such plan, or no room for both, it leaves `out` alone. C passes numbers and
-// slices only and names each call, so each takes the rates apart and promises the same of its own `out`.
+// What C and Rust can call of the benchmark: plans run to their end, and calls of an axis.
+//
+// The rows of a plan stand as steps, speed, steps, speed, .. . A plan's call writes the number of ticks and then the sum over the advances
+// to the front of `out`; where there is no such plan, or no room for both, it leaves `out` alone. C passes numbers and slices only and
+// names each call, so each takes the rates apart and promises the same of its own `out`.
 #![tactic(auto)]
 
-ghost use Rattle.std.specs.Prelude.{◌≡◌, ◌<◌, length, Some};
+ghost use Rattle.std.specs.Prelude.{◌≡◌, ◌<◌, ◌⊎◌, [], length, Some};
 ghost use Rattle.profile.specs.Plans.{plan_fault};
 ghost use Rattle.profile.specs.declared.fault.PlanFault.{PlanFault};
 ghost use Rattle.bench.specs.Flat.{plan_in};
+ghost use Rattle.coded.specs.Calls.{IsStuck};
 
 use bench::flat::run_flat;
+use coded::bed::bed_of;
+use coded::run::{Unmade, run_calls};
 use profile::rates::Rates;
 use ramp::ramp::Ramp;
 use smoothing::smoothed::Smoothed;
@@ -40,5 +45,30 @@ pub extern "C" fn longbed_smoothed(
     let mut profile = Smoothed::new(Ramp::new(), window as usize);
     if let Some(outcome) = run_flat(&mut profile, start, Rates { accel, decel }, rows) {
         outcome.tell(out);
+    }
+}
+
+// Calls of a new axis, and their answers, as crate `coded` says. The bed is given by small numbers (`bed_of`). Answers 0, or 1 where there
+// is no such bed, 2 where a call cannot be read, and 3 where the answers of a call find no room; the calls before it were made.
+#[unsafe(no_mangle)]
+pub extern "C" fn longbed_calls(
+    drive: u8,
+    profile: u8,
+    outer: u32,
+    inner: u32,
+    calls: &[u8],
+    out: &mut [i32],
+) -> u8
+    ensures unknown { (1 < drive) ⊎ (5 < profile) → (result ≡ 1) × (out.new ≡ out.old) }
+    ensures stuck { IsStuck calls.now (length out.old) → (0 < result) × (out.new ≡ out.old) }
+    ensures none { calls.now ≡ [] → (result < 2) × (out.new ≡ out.old) }
+{
+    let Some(bed) = bed_of(drive, profile, outer, inner) else {
+        return 1;
+    };
+    match run_calls(bed, calls, out) {
+        Ok(()) => 0,
+        Err(Unmade::Unreadable) => 2,
+        Err(Unmade::NoRoom) => 3,
     }
 }
