@@ -12,7 +12,7 @@ ghost use Rattle.bench.specs.Flat.{plan_in};
 ghost use Rattle.coded.specs.Calls.{IsStuck};
 
 use bench::flat::run_flat;
-use coded::bed::bed_of;
+use coded::numbers::bed_of;
 use coded::run::{Unmade, run_calls};
 use profile::rates::Rates;
 use ramp::ramp::Ramp;

@@ -1,4 +1,4 @@
-use crate::bed::bed_of;
+use crate::numbers::bed_of;
 use crate::run::{Unmade, run_calls};
 use std::test::Fail;
 
