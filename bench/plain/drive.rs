@@ -22,22 +22,34 @@ pub trait Drive {
     // A refusal changes nothing.
     fn advance(&mut self, steps: i32) -> Result<(), DriveFault>;
 
-    // Any position can be set, on a tripped drive too.
-    fn set(&mut self, place: i32);
-
-    fn set_tripped(&mut self, tripped: bool);
-
-    fn place(&self) -> i32;
-
-    fn is_tripped(&self) -> bool;
-
     // What a drive of its kind shows beside: its direction line or its coil byte.
     fn shown(&self) -> i32;
+
+    fn seat(&self) -> &Seat;
+
+    fn seat_mut(&mut self) -> &mut Seat;
+
+    // Any position can be set, on a tripped drive too.
+    fn set(&mut self, place: i32) {
+        self.seat_mut().place = place;
+    }
+
+    fn set_tripped(&mut self, tripped: bool) {
+        self.seat_mut().tripped = tripped;
+    }
+
+    fn place(&self) -> i32 {
+        self.seat().place
+    }
+
+    fn is_tripped(&self) -> bool {
+        self.seat().tripped
+    }
 }
 
 // What every drive keeps.
 #[derive(Default)]
-struct Seat {
+pub struct Seat {
     place: i32,
     tripped: bool,
 }
@@ -85,20 +97,12 @@ impl Drive for Pulse {
         Ok(())
     }
 
-    fn set(&mut self, place: i32) {
-        self.seat.place = place;
+    fn seat(&self) -> &Seat {
+        &self.seat
     }
 
-    fn set_tripped(&mut self, tripped: bool) {
-        self.seat.tripped = tripped;
-    }
-
-    fn place(&self) -> i32 {
-        self.seat.place
-    }
-
-    fn is_tripped(&self) -> bool {
-        self.seat.tripped
+    fn seat_mut(&mut self) -> &mut Seat {
+        &mut self.seat
     }
 
     fn shown(&self) -> i32 {
@@ -132,20 +136,12 @@ impl Drive for Phase {
         Ok(())
     }
 
-    fn set(&mut self, place: i32) {
-        self.seat.place = place;
+    fn seat(&self) -> &Seat {
+        &self.seat
     }
 
-    fn set_tripped(&mut self, tripped: bool) {
-        self.seat.tripped = tripped;
-    }
-
-    fn place(&self) -> i32 {
-        self.seat.place
-    }
-
-    fn is_tripped(&self) -> bool {
-        self.seat.tripped
+    fn seat_mut(&mut self) -> &mut Seat {
+        &mut self.seat
     }
 
     fn shown(&self) -> i32 {
