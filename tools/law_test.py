@@ -51,46 +51,6 @@ tick 400
 bed pulse creep
 setup 1000
 rows 10 -5 4
-block 0x2000 1 0 0 0 0 100 100 5 0
-tick 12
-event 1
-tick 100
-
-bed pulse creep
-setup 1000
-rows 10 -5 4
-block 0x2000 1 0 0 0 0 100 100 5 0
-tick 12
-block 0x0010 0 0 0 0 0 0 0 0 0
-tick 100
-
-bed pulse creep
-setup 1000
-rows 10 -5 4
-block 0x2000 1 0 0 0 0 100 100 5 0
-tick 12
-event 5
-tick 100
-
-bed pulse creep
-setup 1000
-rows 10 -5 4
-block 0x2000 1 0 0 0 0 100 100 5 0
-tick 12
-event 7
-tick 100
-
-bed pulse creep
-setup 1000
-rows 10 -5 4
-block 0x2000 1 0 0 0 0 100 100 5 0
-tick 12
-block 0x0004 0 0 0 0 0 0 0 0 0
-tick 100
-
-bed pulse creep
-setup 1000
-rows 10 -5 4
 block 0x2000 1 0 0 0 0 100 100 0 0
 tick 10
 block 0x0004 0 0 0 0 0 0 0 0 0
@@ -194,6 +154,10 @@ setup 500
 block 0x0008 0 0 0 5 0 100 100 0 0
 tick 200
 """
+
+# A dwell move in its first pause, and what comes then.
+PAUSED = "bed pulse creep\nsetup 1000\nrows 10 -5 4\nblock 0x2000 1 0 0 0 0 100 100 5 0\ntick 12\n{}\ntick 100"
+IN_A_PAUSE = ["event 1", "block 0x0010 0 0 0 0 0 0 0 0 0", "event 5", "event 7", "block 0x0004 0 0 0 0 0 0 0 0 0"]
 
 
 class Quick(Ramp):
@@ -1263,7 +1227,7 @@ def scripts():
         drawer = Recorder(seed, COUNT)
         drawer.all()
         drawn.append(drawer)
-    written = [Written([line for text in script.split("\n") for line in rows_of(text)]) for script in DIRECTED.strip().split("\n\n")]
+    written = [Written([line for text in script.split("\n") for line in rows_of(text)]) for script in DIRECTED.strip().split("\n\n") + [PAUSED.format(what) for what in IN_A_PAUSE]]
     return drawn, written
 
 
