@@ -271,7 +271,7 @@ class on:
 
 
 @record
-class waiting:
+class pausing:
     waited: int
     at: int
     leg: Leg
@@ -297,16 +297,16 @@ def on_leg(over, x, leg, later, pause):
         return on(x, leg, later, pause)
     if not later:
         return NONE
-    return waiting(0, leg_end(x, leg), later[0], later[1:], pause)
+    return pausing(0, leg_end(x, leg), later[0], later[1:], pause)
 
 
 def ticked(over, journey):
     match journey:
         case on(x, leg, later, pause):
             return on_leg(over, x, leg, later, pause)
-        case waiting(waited, x, leg, later, pause):
+        case pausing(waited, x, leg, later, pause):
             if waited < pause:
-                return waiting(waited + 1, x, leg, later, pause)
+                return pausing(waited + 1, x, leg, later, pause)
             return on_leg(over, x, leg, later, pause)
     return journey
 
@@ -315,7 +315,7 @@ def braked(journey):
     match journey:
         case on(x, leg, _, _):
             return held(x, leg)
-        case waiting():
+        case pausing():
             return NONE
     return journey
 
@@ -328,7 +328,7 @@ def due_in(journey, before, after):
     match journey:
         case on(_, leg, _, _) | held(_, leg):
             return fresh(leg, before, after)
-        case waiting(waited, _, leg, _, pause):
+        case pausing(waited, _, leg, _, pause):
             return 0 if waited < pause else fresh(leg, 0, after)
     return 0
 
@@ -367,7 +367,7 @@ class Account:
     levels: Levels
     start: int
     rows: list  # of Segment
-    sent_to: int
+    target: int
     journey: object
     underway: object  # Timing, or None
     resting: object  # Rest, or None
@@ -522,7 +522,7 @@ def command_effect(a, command, block):
         case "Hold":
             return HOLDS
         case "Resume":
-            return single(a, block, a.sent_to)
+            return single(a, block, a.target)
         case "Stop":
             return STOPS
         case "Preset":
@@ -553,7 +553,7 @@ def effect(a, call, ok):
     return TICKS if isinstance(call, Tick) else NOTHING
 
 
-def accepted_effect(a, call, answer):
+def effect_of(a, call, answer):
     return effect(a, call, accepted(answer))
 
 
@@ -566,7 +566,7 @@ def counted_by(counted, e, steps):
     return counted
 
 
-def sent_by(to, e):
+def target_by(to, e):
     return e.to if isinstance(e, Moves) else to
 
 
@@ -616,24 +616,24 @@ def resting_by(resting, e, steps, v):
 
 
 def account_after(a, call, answer, v):
-    e = accepted_effect(a, call, answer)
+    e = effect_of(a, call, answer)
     return Account(v, counted_by(a.counted, e, steps_in(answer)), kept_after(a.kept, call), levels_after(a.levels, call),
                    start_after(a.start, call, accepted(answer)), rows_after(a.rows, ordered(a.kept, call, accepted(answer))),
-                   sent_by(a.sent_to, e), journey_by(a.view.position, a.journey, e, v), underway_by(a.underway, e, v),
+                   target_by(a.target, e), journey_by(a.view.position, a.journey, e, v), underway_by(a.underway, e, v),
                    resting_by(a.resting, e, steps_in(answer), v))
 
 
 # ---- Law
 
-def Along(x, leg, v):
+def OnPlan(x, leg, v):
     return v.profile.plan == leg.plan and v.position == along(x, leg, v.profile.gone)
 
 
 def Travels(journey, v):
     match journey:
         case on(x, leg, _, _) | held(x, leg):
-            return Along(x, leg, v)
-        case waiting(_, x, _, _, _):
+            return OnPlan(x, leg, v)
+        case pausing(_, x, _, _, _):
             return is_over(v) and v.position == x
     return True
 
@@ -641,9 +641,9 @@ def Travels(journey, v):
 def TravelsOn(journey, v):
     match journey:
         case on(x, leg, _, _) | held(x, leg):
-            return Along(x, leg, v)
-        case waiting(waited, x, leg, _, pause):
-            return is_over(v) and v.position == x if waited < pause else Along(x, leg, v)
+            return OnPlan(x, leg, v)
+        case pausing(waited, x, leg, _, pause):
+            return is_over(v) and v.position == x if waited < pause else OnPlan(x, leg, v)
     return True
 
 
@@ -689,7 +689,7 @@ def InTime(underway):
 
 def Still(journey, v):
     match journey:
-        case on() | waiting():
+        case on() | pausing():
             return False
         case held():
             return is_over(v)
@@ -697,7 +697,7 @@ def Still(journey, v):
 
 
 def Travelling(journey):
-    return isinstance(journey, (on, waiting))
+    return isinstance(journey, (on, pausing))
 
 
 def Stands(a, e):
@@ -710,7 +710,7 @@ def Stands(a, e):
 
 
 def Arrives(a, journey, v):
-    return a.view.complete or not v.complete or v.position == a.sent_to and Still(journey, v)
+    return a.view.complete or not v.complete or v.position == a.target and Still(journey, v)
 
 
 def Settles(resting):
@@ -728,13 +728,13 @@ def Law(g, a, call, answer, words, v, after):
     yield from CallLaw(g, a, call, answer, words, v)
     if not Travels(after.journey, v):
         yield "travels"
-    if not Clears(accepted_effect(a, call, answer), v):
+    if not Clears(effect_of(a, call, answer), v):
         yield "clears"
     if not InTime(after.underway):
         yield "in_time"
     if not Arrives(a, after.journey, v):
         yield "arrives"
-    if not Stands(a, accepted_effect(a, call, answer)):
+    if not Stands(a, effect_of(a, call, answer)):
         yield "stands"
     if not Settles(after.resting):
         yield "rests"
@@ -906,7 +906,7 @@ class Watch:
     def __call__(self, m, a, b):
         self.moments += 1
         say = self.say
-        e = accepted_effect(a, m.call, m.answer)
+        e = effect_of(a, m.call, m.answer)
         order = ordered(a.kept, m.call, accepted(m.answer))
         v, steps = b.view, steps_in(m.answer)
         say(steps != 0, "counts: steps were answered")
@@ -955,7 +955,7 @@ class Watch:
         match a.journey:
             case on():
                 what = f"on a leg, {some}"
-            case waiting(waited, _, _, _, pause):
+            case pausing(waited, _, _, _, pause):
                 what = "in a pause" if waited < pause else f"a next leg begins, {some}"
             case held():
                 what = f"after a hold, {some}"
@@ -966,9 +966,9 @@ class Watch:
         self.say(steps < 0, "call.taken: some, counterclockwise")
         self.say(abs(steps) == self.reach, "call.taken: as many as the drive goes")
         first = isinstance(a.journey, on) and a.view.profile.gone == 0
-        first = first or isinstance(a.journey, waiting) and a.journey.waited == a.journey.pause
+        first = first or isinstance(a.journey, pausing) and a.journey.waited == a.journey.pause
         self.say(first and is_over(b.view), "call.travels: a leg of one tick")
-        self.say(isinstance(b.journey, waiting) and b.journey.waited == 0 and b.journey is not a.journey, "travels: a leg ends and a pause begins")
+        self.say(isinstance(b.journey, pausing) and b.journey.waited == 0 and b.journey is not a.journey, "travels: a leg ends and a pause begins")
 
     def journey(self, a, b):
         match b.journey:
@@ -976,7 +976,7 @@ class Watch:
                 self.say(True, "travels: on a leg")
                 self.say(bool(later), "travels: on a leg of a dwell move")
                 self.say(len(leg.plan.rows) > 1, "travels: on a blend")
-            case waiting():
+            case pausing():
                 self.say(True, "travels: in a pause")
                 self.say(b.journey.pause == 0, "travels: in a pause of no ticks")
             case held():
@@ -986,14 +986,14 @@ class Watch:
         say = self.say
         if isinstance(e, Holds):
             say(isinstance(a.journey, on), "effect: a hold on a leg")
-            say(isinstance(a.journey, waiting), "effect: a hold in a pause")
-            say(isinstance(a.journey, waiting) and a.journey.pause == 0, "effect: a hold in a pause of no ticks")
+            say(isinstance(a.journey, pausing), "effect: a hold in a pause")
+            say(isinstance(a.journey, pausing) and a.journey.pause == 0, "effect: a hold in a pause of no ticks")
         say(isinstance(e, Presets) and isinstance(a.journey, held), "effect: a preset while held")
         event = EVENTS.get(m.call.code) if isinstance(m.call, Event) else None
         if isinstance(e, Stops):
             say(True, f"effect: a full stop by {'command' if event is None else dict(Limit='a limit', EStop='the E-stop', Trip='a trip')[event[0]]}")
             say(a.underway is not None and isinstance(a.journey, on), "effect: a full stop under way")
-            say(isinstance(a.journey, waiting), "effect: a full stop in a pause")
+            say(isinstance(a.journey, pausing), "effect: a full stop in a pause")
             say(isinstance(a.journey, held) and not is_over(a.view), "effect: a full stop while holding")
         if event is not None and event[2] and not isinstance(e, Stops):
             if event[0] == "Trip":

@@ -76,7 +76,7 @@ programming_too (Held target) t tb place p e h = absurd (false≢true e)
 
 -- what rests does, whatever the rows
 abbrev with_rows : Trace → Bool → List Segment → Trace
-with_rows t b rows = record { rows = rows; sent_to = t.sent_to; journey = t.journey; underway = cond b None t.underway; resting = t.resting }
+with_rows t b rows = record { rows = rows; target = t.target; journey = t.journey; underway = cond b None t.underway; resting = t.resting }
 
 rests_with : (rows : List Segment) (b : Bool) (t : Trace) (place : ℤ) (p : ProfileMeans) → IsResting t place p → IsResting (with_rows t b rows) place p
 rests_with rows b t place p h = let r = rests_still b t place p h in record { journey = r.journey; over = r.over; slows = r.slows }
@@ -90,7 +90,7 @@ held_rests (Holding travel) t tb place p target e h = let z : ◌≡◌ {A = Opt
 held_rests (Held x) t tb place p target e h = h.0
 
 -- a held move's target is where it was sent
-held_there : (s : State) (t : Trace) (tb : TableMeans) (place : ℤ) (p : ProfileMeans) (target : ℤ) → held_target s ≡ Some target → Moving s t tb place p → target ≡ t.sent_to
+held_there : (s : State) (t : Trace) (tb : TableMeans) (place : ℤ) (p : ProfileMeans) (target : ℤ) → held_target s ≡ Some target → Moving s t tb place p → target ≡ t.target
 held_there Idle t tb place p target e h = let z : ◌≡◌ {A = Option ℤ} None (Some target) = e in cc
 held_there Programming t tb place p target e h = let z : ◌≡◌ {A = Option ℤ} None (Some target) = e in cc
 held_there (Running travel) t tb place p target e h = let z : ◌≡◌ {A = Option ℤ} None (Some target) = e in cc
@@ -215,7 +215,7 @@ module _ (g : ℕ) (k : AxisMeans) (t : Trace) (w : ℕ) (words : List ℤ) (b :
       P x = G (Ok tt) (record { drive = k.drive; profile = p; memory = x })
 
       -- a hold of a journey that then is at rest
-      held_resting : (j : Journey) → braked t.journey ≡ j → AtRest j k.drive.place p → (c : Bool) → IsResting (record { rows = t.rows; sent_to = t.sent_to; journey = braked t.journey; underway = None; resting = Some (record { allowed = brake_ticks p; sent = 0 }) }) k.drive.place p
+      held_resting : (j : Journey) → braked t.journey ≡ j → AtRest j k.drive.place p → (c : Bool) → IsResting (record { rows = t.rows; target = t.target; journey = braked t.journey; underway = None; resting = Some (record { allowed = brake_ticks p; sent = 0 }) }) k.drive.place p
       held_resting j e r c = record { journey = subst (λ z. AtRest z k.drive.place p) (sym e) r; over = refl; slows = omega arith }
 
       module _ (travel : Travel) (r : IsRunning t k.memory.table k.drive.place k.profile travel.direction travel.kind) (br : Braked k.profile p) where
@@ -236,19 +236,19 @@ module _ (g : ℕ) (k : AxisMeans) (t : Trace) (w : ℕ) (words : List ℤ) (b :
 
         rest : (x : MemoryMeans) → k.memory.kept ≡ x.kept → k.memory.levels ≡ x.levels → k.memory.table ≡ x.table
             → Programmed t (record { drive = k.drive; profile = p; memory = x })
-            → Moving x.state (record { rows = t.rows; sent_to = t.sent_to; journey = braked t.journey; underway = None; resting = Some (record { allowed = brake_ticks p; sent = 0 }) }) x.table k.drive.place p
-            → (k.memory.flags.complete ≡ false → x.flags.complete ≡ true → (k.drive.place ≡ t.sent_to) × Still (braked t.journey) (plain (record { drive = k.drive; profile = p; memory = x }))) → P x
+            → Moving x.state (record { rows = t.rows; target = t.target; journey = braked t.journey; underway = None; resting = Some (record { allowed = brake_ticks p; sent = 0 }) }) x.table k.drive.place p
+            → (k.memory.flags.complete ≡ false → x.flags.complete ≡ true → (k.drive.place ≡ t.target) × Still (braked t.journey) (plain (record { drive = k.drive; profile = p; memory = x }))) → P x
         rest x ke le tb rows moving arrives =
             good_by HoldsEffect t.rows (effect_is ∙ ef) (rows_are ∙ ro) refl (keeps ∙ ke) le (ap (λ (z : TableMeans). z.start) tb)
             (record { rows = rows; moving = moving }) (omega arith) tt tt arrives (subst Travelling (sym r.journey) tt)
 
-        quiet : eqb p.left 0 ≡ true → IsResting (record { rows = t.rows; sent_to = t.sent_to; journey = braked t.journey; underway = None; resting = Some (record { allowed = brake_ticks p; sent = 0 }) }) k.drive.place p
+        quiet : eqb p.left 0 ≡ true → IsResting (record { rows = t.rows; target = t.target; journey = braked t.journey; underway = None; resting = Some (record { allowed = brake_ticks p; sent = 0 }) }) k.drive.place p
         quiet z = held_resting (held_on r.from r.leg) now (on_it.plan_is, on_it.keeps_up, over_is p s ∙ z) true
 
         ready : {b : Bool} → (b || k.memory.table.ready) ≡ true → b ≡ false → t.rows ≡ k.memory.table.rows
         ready {b} e f = h.rows (or_right _ _ (sym (ap (λ z. z || k.memory.table.ready) f) ∙ e))
 
-        rests_by : eqb p.left 0 ≡ true → (kind : Kind) → Aims kind t.sent_to → P (rested k.memory k.drive.place kind)
+        rests_by : eqb p.left 0 ≡ true → (kind : Kind) → Aims kind t.target → P (rested k.memory k.drive.place kind)
         rests_by z (Single target) aims =
             cond_both (eqb (distance k.drive.place target) 0) _ _ P
             (λ e. rest (completed k.memory) refl refl refl (λ q. ready q refl) (quiet z)
@@ -322,7 +322,7 @@ module _ (g : ℕ) (k : AxisMeans) (t : Trace) (w : ℕ) (words : List ℤ) (b :
       on None f r = absurd (none_ordered refusal.State o r)
       on (Some target) f r =
           let q = resume_is g k b target o r in
-          let there : target ≡ t.sent_to = held_there k.memory.state t k.memory.table k.drive.place k.profile target f h.moving in
+          let there : target ≡ t.target = held_there k.memory.state t k.memory.table k.drive.place k.profile target f h.moving in
           subst (λ x. Uses k x p → G (Ok tt) (carried k x p)) (sym q) (goes command.Resume cm (held_rests k.memory.state t k.memory.table k.drive.place k.profile target f h.moving) target (ap (λ x. single a b x) (sym there)) refl) u
   carries command.Stop cm o al e u =
       let q : o ≡ order.Stop = ordered_same order.Stop o e in

@@ -11,9 +11,9 @@ use Rattle.axis.specs.declared.state.State.{State}
 use Rattle.axis.specs.declared.state.State.TheVariants.{Idle, Programming, Running, Pausing, Holding, Held}
 use Rattle.law.proofs.Facts.{AtRest, plain, Trace, IsResting, Holds}
 use Rattle.law.proofs.Goods.{Good}
-use Rattle.law.specs.Accounts.{Account, Effect, Stops, ordered, kept_after, levels_after, start_after, rows_after, accepted_effect, counted_by, sent_by, journey_by, underway_by, resting_by}
+use Rattle.law.specs.Accounts.{Account, Effect, Stops, ordered, kept_after, levels_after, start_after, rows_after, effect_of, counted_by, target_by, journey_by, underway_by, resting_by}
 use Rattle.law.specs.Calls.{Call, Answer, accepted, steps_in}
-use Rattle.law.specs.Journeys.{Journey, none, on, waiting, held}
+use Rattle.law.specs.Journeys.{Journey, none, on, pausing, held}
 use Rattle.law.specs.Law.{CallLaw, Clears, Arrives, Still, Stands}
 use Rattle.law.specs.Moments.{View}
 
@@ -22,7 +22,7 @@ abbrev pub trace_by : Account → Effect → List Segment → ℤ → View → T
 trace_by a e rows n v =
     record {
       rows = rows;
-      sent_to = sent_by a.sent_to e;
+      target = target_by a.target e;
       journey = journey_by a.view.position a.journey e v;
       underway = underway_by a.underway e v;
       resting = resting_by a.resting e n v;
@@ -30,7 +30,7 @@ trace_by a e rows n v =
 
 pub good_by :
     {g : ℕ} {a : Account} {c : Call} {r : Answer} {ws : List ℤ} {m' : AxisMeans} (e : Effect) (rows : List Segment)
-    → accepted_effect a c r ≡ e → rows_after a.rows (ordered a.kept c (accepted r)) ≡ rows
+    → effect_of a c r ≡ e → rows_after a.rows (ordered a.kept c (accepted r)) ≡ rows
     → counted_by a.counted e (steps_in r) ≡ m'.drive.place → kept_after a.kept c ≡ m'.memory.kept → levels_after a.levels c ≡ m'.memory.levels
     → start_after a.start c (accepted r) ≡ m'.memory.table.start → Holds m' (trace_by a e rows (steps_in r) (plain m'))
     → nat_abs (steps_in r) ≤ up_div (fastest m'.profile.plan) 1000 → CallLaw g a c r ws (plain m') → Clears e (plain m')
@@ -78,5 +78,5 @@ stopped_rests t place p v n a rows = record { journey = tt; over = refl; slows =
 pub stands_still : (j : Journey) (v : View) → AtRest j v.position v.profile → Still j v
 stands_still none v h = tt
 stands_still (on x l ls w) v h = absurd h
-stands_still (waiting u x l ls w) v h = absurd h
+stands_still (pausing u x l ls w) v h = absurd h
 stands_still (held x l) v h = h.2

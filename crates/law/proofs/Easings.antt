@@ -89,7 +89,7 @@ module _ (g : ℕ) (m : AxisMeans) (t : Trace) (travel : Travel) (p : ProfileMea
       }
 
   -- at rest after it
-  resting : eqb p.left 0 ≡ true → (o c : Bool) → IsResting (record { rows = t.rows; sent_to = t.sent_to; journey = ticked o t.journey; underway = cond c None (one_more t.underway); resting = sending t.resting n }) d'.place p
+  resting : eqb p.left 0 ≡ true → (o c : Bool) → IsResting (record { rows = t.rows; target = t.target; journey = ticked o t.journey; underway = cond c None (one_more t.underway); resting = sending t.resting n }) d'.place p
   resting e o c =
       record {
         journey = subst (λ j. AtRest j d'.place p) (sym (journey o)) (there.plan_is, there.keeps_up, over_is p s ∙ e);
@@ -100,7 +100,7 @@ module _ (g : ℕ) (m : AxisMeans) (t : Trace) (travel : Travel) (p : ProfileMea
   not_set : (j : Journey) → Arrives (told m t) j (plain (record { drive = d'; profile = p; memory = k }))
   not_set j x y = absurd (both_ways _ x y)
 
-  rests : eqb p.left 0 ≡ true → (kind : Kind) → Aims kind t.sent_to → P (rested k d'.place kind)
+  rests : eqb p.left 0 ≡ true → (kind : Kind) → Aims kind t.target → P (rested k d'.place kind)
   rests z (Single target) aims =
       cond_both (eqb (distance d'.place target) 0) _ _ P
       (λ e. good (completed k) refl refl refl rows (resting z _ true)

@@ -16,7 +16,7 @@ use Rattle.axis.specs.declared.state.Kind.TheVariants.{Single, Blend, Dwell}
 use Rattle.axis.specs.declared.state.State.{State}
 use Rattle.axis.specs.declared.state.State.TheVariants.{Idle, Programming, Running, Pausing, Holding, Held}
 use Rattle.law.specs.Accounts.{Account, Timing, Rest}
-use Rattle.law.specs.Journeys.{Leg, Journey, none, on, waiting, held, along, leg_end, later_ticks}
+use Rattle.law.specs.Journeys.{Leg, Journey, none, on, pausing, held, along, leg_end, later_ticks}
 use Rattle.law.specs.Moments.{View}
 
 -- what is to be seen of an axis, in plain words
@@ -26,7 +26,7 @@ plain m = record { position = m.drive.place; complete = m.memory.flags.complete;
 -- the part of an account that the axis does not keep in the same form
 pub record Trace : Type 0 where
   pub rows : List Segment
-  pub sent_to : ℤ
+  pub target : ℤ
   pub journey : Journey
   pub underway : Option Timing
   pub resting : Option Rest
@@ -40,14 +40,14 @@ told m t =
       levels = m.memory.levels;
       start = m.memory.table.start;
       rows = t.rows;
-      sent_to = t.sent_to;
+      target = t.target;
       journey = t.journey;
       underway = t.underway;
       resting = t.resting;
     }
 
 abbrev pub trace_of : Account → Trace
-trace_of a = record { rows = a.rows; sent_to = a.sent_to; journey = a.journey; underway = a.underway; resting = a.resting }
+trace_of a = record { rows = a.rows; target = a.target; journey = a.journey; underway = a.underway; resting = a.resting }
 
 -- the rows of a table from one on, as legs of a run
 abbrev pub leg_of_row : ℕ → Rates → Segment → Leg
@@ -100,8 +100,8 @@ pub record IsRunning (t : Trace) (tb : TableMeans) (place : ℤ) (p : ProfileMea
   pub leg_is : OnLeg from leg way place p
   pub asked : p.asked ≡ 1000 * plan_steps leg.plan
   pub busy : 0 < p.left
-  pub aims : Aims kind t.sent_to
-  pub ends : legs_end (leg_end from leg) (later tb kind) ≡ t.sent_to
+  pub aims : Aims kind t.target
+  pub ends : legs_end (leg_end from leg) (later tb kind) ≡ t.target
   pub timed : Timed t.underway (p.left + later_ticks p.lag (pause_of kind) (later tb kind))
   pub free : t.resting ≡ None
 
@@ -109,11 +109,11 @@ pub record IsPausing (t : Trace) (tb : TableMeans) (place : ℤ) (p : ProfileMea
   pub waited : ℕ
   pub leg : Leg
   pub legs : List Leg
-  pub journey : t.journey ≡ waiting waited place leg legs next.run.dwell
+  pub journey : t.journey ≡ pausing waited place leg legs next.run.dwell
   pub counts : waited + ticks ≡ next.run.dwell
   pub legs_are : leg ∷ legs ≡ legs_from tb next.run next.index
   pub over : p.gone ≡ p.asked
-  pub ends : legs_end place (leg ∷ legs) ≡ t.sent_to
+  pub ends : legs_end place (leg ∷ legs) ≡ t.target
   pub timed : Timed t.underway (ticks + (plan_ticks leg.plan p.lag + later_ticks p.lag next.run.dwell legs))
   pub free : t.resting ≡ None
 
@@ -123,7 +123,7 @@ pub record IsHolding (t : Trace) (place : ℤ) (p : ProfileMeans) (way : Directi
   pub journey : t.journey ≡ held from leg
   pub leg_is : OnLeg from leg way place p
   pub busy : 0 < p.left
-  pub aims : Aims kind t.sent_to
+  pub aims : Aims kind t.target
   pub over : t.underway ≡ None
   pub slows : Rests t.resting p.left
 
@@ -131,7 +131,7 @@ pub record IsHolding (t : Trace) (place : ℤ) (p : ProfileMeans) (way : Directi
 abbrev pub AtRest : Journey → ℤ → ProfileMeans → Type 0
 AtRest none place p = Unit {0}
 AtRest (on x l ls w) place p = ⊥
-AtRest (waiting u x l ls w) place p = ⊥
+AtRest (pausing u x l ls w) place p = ⊥
 AtRest (held x l) place p = (p.plan ≡ Some l.plan) × (place ≡ along x l p.gone) × (eqb p.gone p.asked ≡ true)
 
 pub record IsResting (t : Trace) (place : ℤ) (p : ProfileMeans) : Type 0 where
@@ -145,7 +145,7 @@ Moving Programming t tb place p = IsResting t place p
 Moving (Running travel) t tb place p = IsRunning t tb place p travel.direction travel.kind
 Moving (Pausing next ticks) t tb place p = IsPausing t tb place p next ticks
 Moving (Holding travel) t tb place p = IsHolding t place p travel.direction travel.kind
-Moving (Held target) t tb place p = IsResting t place p × (target ≡ t.sent_to)
+Moving (Held target) t tb place p = IsResting t place p × (target ≡ t.target)
 
 -- the rows of the latest programming are those of the table, while it is programmed and when it is ready
 abbrev pub Programmed : Trace → AxisMeans → Type 0
@@ -157,7 +157,7 @@ pub record Holds (m : AxisMeans) (t : Trace) : Type 0 where
 
 -- what stays of what was told, when a moment does nothing to the motion
 abbrev pub unmoved : Trace → Bool → Trace
-unmoved t b = record { rows = t.rows; sent_to = t.sent_to; journey = t.journey; underway = cond b None t.underway; resting = t.resting }
+unmoved t b = record { rows = t.rows; target = t.target; journey = t.journey; underway = cond b None t.underway; resting = t.resting }
 
 timed_still : (b : Bool) (u : Option Timing) (n : ℕ) → Timed u n → Timed (cond b None u) n
 timed_still true u n h = tt

@@ -15,9 +15,9 @@ use Rattle.law.proofs.Facts.{plain, Trace, told, trace_of, Timed, Rests, AtRest,
 use Rattle.law.proofs.Legs.{plan_takes, legs_next}
 use Rattle.block.specs.Frames.{pair_at}
 use Rattle.block.specs.Pairs.{decoded}
-use Rattle.law.specs.Accounts.{Account, Timing, Rest, account_after, accepted_effect}
+use Rattle.law.specs.Accounts.{Account, Timing, Rest, account_after, effect_of}
 use Rattle.law.specs.Calls.{Call, Answer, steps_in}
-use Rattle.law.specs.Journeys.{Journey, none, on, waiting, held}
+use Rattle.law.specs.Journeys.{Journey, none, on, pausing, held}
 use Rattle.law.specs.Law.{Travels, CallLaw, Clears, InTime, Arrives, Stands, Settles, Law}
 use Rattle.law.specs.Moments.{View}
 
@@ -30,9 +30,9 @@ pub record Good (g : ℕ) (a : Account) (c : Call) (r : Answer) (ws : List ℤ) 
   pub holds : Holds m' (trace_of (account_after a c r (plain m')))
   pub slow : nat_abs (steps_in r) ≤ up_div (fastest m'.profile.plan) 1000
   pub call : CallLaw g a c r ws (plain m')
-  pub clears : Clears (accepted_effect a c r) (plain m')
+  pub clears : Clears (effect_of a c r) (plain m')
   pub arrives : Arrives a (account_after a c r (plain m')).journey (plain m')
-  pub stands : Stands a (accepted_effect a c r)
+  pub stands : Stands a (effect_of a c r)
 
 -- the account after it
 pub same_account :
@@ -72,7 +72,7 @@ module _ (v : View) where
   rested : (j : Journey) → AtRest j v.position v.profile → Travels j v
   rested none h = tt
   rested (on x l ls w) h = absurd h
-  rested (waiting u x l ls w) h = absurd h
+  rested (pausing u x l ls w) h = absurd h
   rested (held x l) h = (h.0, h.1)
 
   moving_travels : (s : State) (t : Trace) (tb : TableMeans) → Moving s t tb v.position v.profile → Travels t.journey v

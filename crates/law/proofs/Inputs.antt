@@ -105,7 +105,7 @@ same_level l Ccw e = on l.limits.ccw e
     on false h = absurd (true≢false h)
 
 -- a limit that comes on while nothing moves
-rests_limited : (s : State) (a : Account) (rows : List _) (v : _) (tb : TableMeans) (place : ℤ) (p : ProfileMeans) (t : Trace) → travels s ≡ false → a.sent_to ≡ t.sent_to → Moving s t tb place p
+rests_limited : (s : State) (a : Account) (rows : List _) (v : _) (tb : TableMeans) (place : ℤ) (p : ProfileMeans) (t : Trace) → travels s ≡ false → a.target ≡ t.target → Moving s t tb place p
     → Moving s (trace_by a Stops rows (pos 0) v) tb place p
 rests_limited Idle a rows v tb place p t e f h = stopped_rests t place p v (pos 0) a rows
 rests_limited Programming a rows v tb place p t e f h = stopped_rests t place p v (pos 0) a rows

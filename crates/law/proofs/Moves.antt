@@ -22,7 +22,7 @@ use Rattle.law.proofs.Changes.{good_by}
 use Rattle.law.proofs.Facts.{plain, Trace, legs_end, later, pause_of, Aims, Holds}
 use Rattle.law.proofs.Goods.{Good}
 use Rattle.law.proofs.Legs.{some_steps}
-use Rattle.law.specs.Accounts.{Account, Moves, ordered, accepted_effect, kept_after, levels_after, start_after, rows_after, row_leg, sum_of}
+use Rattle.law.specs.Accounts.{Account, Moves, ordered, effect_of, kept_after, levels_after, start_after, rows_after, row_leg, sum_of}
 use Rattle.law.specs.Calls.{Call, Replied}
 use Rattle.law.specs.Journeys.{Leg, on, leg_end, set_out, later_ticks, move_ticks}
 use Rattle.law.specs.Law.{CallLaw, Stands}
@@ -37,7 +37,7 @@ older k t w =
       levels = k.memory.levels;
       start = k.memory.table.start;
       rows = t.rows;
-      sent_to = t.sent_to;
+      target = t.target;
       journey = t.journey;
       underway = t.underway;
       resting = t.resting;
@@ -55,7 +55,7 @@ pub move_good :
     (g : ℕ) (k : AxisMeans) (t : Trace) (w : ℕ) (c : Call) (ws : List ℤ) (to : ℤ) (leg : Leg) (ls legs : List Leg) (pause : ℕ) (kind : Kind) (p : ProfileMeans)
     → Holds k t → legs ≡ leg ∷ ls → later k.memory.table kind ≡ ls → pause_of kind ≡ pause → Aims kind to → legs_end (leg_end k.drive.place leg) ls ≡ to
     → Begun k.profile leg.plan p → Sound p
-    → accepted_effect (older k t w) c (Replied (Ok tt)) ≡ Moves to (record { legs = legs; pause = pause })
+    → effect_of (older k t w) c (Replied (Ok tt)) ≡ Moves to (record { legs = legs; pause = pause })
     → rows_after t.rows (ordered w c true) ≡ t.rows
     → kept_after w c ≡ k.memory.kept → levels_after k.memory.levels c ≡ k.memory.levels → start_after k.memory.table.start c true ≡ k.memory.table.start
     → Stands (older k t w) (Moves to (record { legs = legs; pause = pause }))

@@ -25,8 +25,8 @@ use Rattle.law.proofs.Goods.{Good}
 use Rattle.law.proofs.Legs.{some_steps, legs_next, legs_over, sent_there, takes_it, few}
 use Rattle.law.specs.Accounts.{Timing, Rest, account_after, one_more, sending, is_over}
 use Rattle.law.specs.Calls.{Tick, Sent}
-use Rattle.law.specs.Journeys.{Leg, Journey, none, on, waiting, held, along, leg_end, later_ticks, on_leg, ticked, fresh, due_in}
-use Rattle.law.specs.Law.{Along, TravelsOn, Arrives, Still, Takes}
+use Rattle.law.specs.Journeys.{Leg, Journey, none, on, pausing, held, along, leg_end, later_ticks, on_leg, ticked, fresh, due_in}
+use Rattle.law.specs.Law.{OnPlan, TravelsOn, Arrives, Still, Takes}
 use Rattle.law.specs.Moments.{View}
 
 -- what a tick does to a leg, whose profile meant b before it and means p after it
@@ -96,11 +96,11 @@ pub record OnTick (g : ℕ) (m : AxisMeans) (t : Trace) (way : Direction) (kind 
   pub leg_is : OnLeg from leg way m.drive.place b
   pub asked : b.asked ≡ 1000 * plan_steps leg.plan
   pub busy : 0 < b.left
-  pub aims : Aims kind t.sent_to
-  pub ends : legs_end (leg_end from leg) (later k.table kind) ≡ t.sent_to
+  pub aims : Aims kind t.target
+  pub ends : legs_end (leg_end from leg) (later k.table kind) ≡ t.target
   pub timed : Timed t.underway (b.left + later_ticks b.lag (pause_of kind) (later k.table kind))
   pub free : t.resting ≡ None
-  pub travels : (v : View) → Along from leg v → TravelsOn t.journey v
+  pub travels : (v : View) → OnPlan from leg v → TravelsOn t.journey v
   pub due_is : due_in t.journey m.profile.gone p.gone ≡ fresh leg b.gone p.gone
   pub goes : (over : Bool) → ticked over t.journey ≡ on_leg over from leg (later k.table kind) (pause_of kind)
   pub taken : takes_all g m.drive (due way b.gone p) ≡ true
@@ -191,7 +191,7 @@ module _ (g : ℕ) (m : AxisMeans) (t : Trace) (way : Direction) (kind : Kind) (
         over = refl;
         slows = subst (λ x. Rests x 0) (sym (free_next t.resting n o.free)) tt;
       })
-      (λ x y. (at_end e ∙ subst (λ ls. legs_end (leg_end o.from o.leg) ls ≡ t.sent_to) last o.ends, subst (λ j. Still j (plain (after (completed k)))) (sym over) tt))
+      (λ x y. (at_end e ∙ subst (λ ls. legs_end (leg_end o.from o.leg) ls ≡ t.target) last o.ends, subst (λ j. Still j (plain (after (completed k)))) (sym over) tt))
 
 -- a row is over, and not the last
 ends_row :
@@ -211,7 +211,7 @@ ends_row g m t way row b p k ws o e l =
       waited = 0;
       leg = leg;
       legs = legs;
-      journey = journey_next g m t way (Dwell row) b p k ws o true e ∙ (ap (λ ls. on_leg true o.from o.leg ls row.run.dwell) next ∙ ap (λ z. waiting 0 z leg legs row.run.dwell) (sym home));
+      journey = journey_next g m t way (Dwell row) b p k ws o true e ∙ (ap (λ ls. on_leg true o.from o.leg ls row.run.dwell) next ∙ ap (λ z. pausing 0 z leg legs row.run.dwell) (sym home));
       counts = omega arith;
       legs_are = sym next;
       over = o.sound.done (eqb-true _ _ e);
@@ -315,8 +315,8 @@ row_tick g m t next p ws h rows l lawful f s taken =
     let leg : Leg = leg_of_row tb.start next.run.rates (row_at tb next.index) in
     let legs = legs_from tb next.run (next.index + 1) in
     let parts = split h.leg leg h.legs legs (h.legs_are ∙ legs_next tb next.run next.index l) in
-    let journey : t.journey ≡ waiting h.waited m.drive.place leg legs next.run.dwell =
-    h.journey ∙ (ap (λ x. waiting h.waited m.drive.place x h.legs next.run.dwell) parts.0 ∙ ap (λ xs. waiting h.waited m.drive.place leg xs next.run.dwell) parts.1) in
+    let journey : t.journey ≡ pausing h.waited m.drive.place leg legs next.run.dwell =
+    h.journey ∙ (ap (λ x. pausing h.waited m.drive.place x h.legs next.run.dwell) parts.0 ∙ ap (λ xs. pausing h.waited m.drive.place leg xs next.run.dwell) parts.1) in
     let b = f.begun in
     let asked : b.asked ≡ 1000 * plan_steps leg.plan = ap (λ (y : ProfileMeans). y.asked) f.begins.after in
     let gone : b.gone ≡ 0 = ap (λ (y : ProfileMeans). y.gone) f.begins.after in
@@ -328,7 +328,7 @@ row_tick g m t next p ws h rows l lawful f s taken =
     subst (λ x. Timed t.underway (0 + (plan_ticks (x.0).plan m.profile.lag + later_ticks m.profile.lag next.run.dwell x.1))) (pair_same h.leg leg h.legs legs parts.0 parts.1) h.timed in
     let soon : b.left + later_ticks b.lag next.run.dwell legs ≤ 0 + (plan_ticks leg.plan m.profile.lag + later_ticks m.profile.lag next.run.dwell legs) =
     rw lag (omega (arith, f.begins.soon)) in
-    let ends : legs_end (leg_end m.drive.place leg) legs ≡ t.sent_to = subst (λ x. legs_end (leg_end m.drive.place x.0) x.1 ≡ t.sent_to) (pair_same h.leg leg h.legs legs parts.0 parts.1) h.ends in
+    let ends : legs_end (leg_end m.drive.place leg) legs ≡ t.target = subst (λ x. legs_end (leg_end m.drive.place x.0) x.1 ≡ t.target) (pair_same h.leg leg h.legs legs parts.0 parts.1) h.ends in
     let o : OnTick g m t way (Dwell next) b p k =
     record {
       r = f.ticks.advance;
@@ -343,9 +343,9 @@ row_tick g m t next p ws h rows l lawful f s taken =
       ends = ends;
       timed = timed_sooner t.underway _ _ soon time;
       free = h.free;
-      travels = λ v a. subst (λ j. TravelsOn j v) (sym journey) (subst (λ z. MatchBool z ((is_over v ≡ true) × (v.position ≡ m.drive.place)) (Along m.drive.place leg v)) (sym waits) a);
+      travels = λ v a. subst (λ j. TravelsOn j v) (sym journey) (subst (λ z. MatchBool z ((is_over v ≡ true) × (v.position ≡ m.drive.place)) (OnPlan m.drive.place leg v)) (sym waits) a);
       due_is = ap (λ j. due_in j m.profile.gone p.gone) journey ∙ (ap (λ z. cond z (pos 0) (fresh leg 0 p.gone)) waits ∙ ap (λ z. fresh leg z p.gone) (sym gone));
-      goes = λ over. ap (ticked over) journey ∙ ap (λ z. cond z (waiting (suc h.waited) m.drive.place leg legs next.run.dwell) (on_leg over m.drive.place leg legs next.run.dwell)) waits;
+      goes = λ over. ap (ticked over) journey ∙ ap (λ z. cond z (pausing (suc h.waited) m.drive.place leg legs next.run.dwell) (on_leg over m.drive.place leg legs next.run.dwell)) waits;
       taken = subst (λ z. takes_all g m.drive (due way z p) ≡ true) (sym gone) taken;
       kept_is = refl;
       levels_are = refl;
@@ -368,8 +368,8 @@ pub wait_tick :
     → Good g (told m t) Tick (Sent (pos 0)) ws (with_memory m (with_state m.memory (Pausing next (ticks - 1))))
 wait_tick g m t next ticks ws h rows l =
     let waits : ltb h.waited next.run.dwell ≡ true = lt-ltb _ _ (omega (arith, h.counts)) in
-    let over : (o : Bool) → ticked o t.journey ≡ waiting (suc h.waited) m.drive.place h.leg h.legs next.run.dwell =
-    λ o. ap (ticked o) h.journey ∙ ap (λ z. cond z (waiting (suc h.waited) m.drive.place h.leg h.legs next.run.dwell) (on_leg o m.drive.place h.leg h.legs next.run.dwell)) waits in
+    let over : (o : Bool) → ticked o t.journey ≡ pausing (suc h.waited) m.drive.place h.leg h.legs next.run.dwell =
+    λ o. ap (ticked o) h.journey ∙ ap (λ z. cond z (pausing (suc h.waited) m.drive.place h.leg h.legs next.run.dwell) (on_leg o m.drive.place h.leg h.legs next.run.dwell)) waits in
     let due_is : due_in t.journey m.profile.gone m.profile.gone ≡ pos 0 =
     ap (λ j. due_in j m.profile.gone m.profile.gone) h.journey ∙ ap (λ z. cond z (pos 0) (fresh h.leg 0 m.profile.gone)) waits in
     record {
@@ -396,7 +396,7 @@ wait_tick g m t next ticks ws h rows l =
       call = record {
         sends = ap Sent (sym due_is);
         taken = subst (λ z. Takes g m.drive z m.drive.place) (sym due_is) tt;
-        travels = subst (λ j. TravelsOn j (plain m)) (sym h.journey) (subst (λ z. MatchBool z ((is_over (plain m) ≡ true) × (m.drive.place ≡ m.drive.place)) (Along m.drive.place h.leg (plain m))) (sym waits) (eq-eqb _ _ h.over, refl));
+        travels = subst (λ j. TravelsOn j (plain m)) (sym h.journey) (subst (λ z. MatchBool z ((is_over (plain m) ≡ true) × (m.drive.place ≡ m.drive.place)) (OnPlan m.drive.place h.leg (plain m))) (sym waits) (eq-eqb _ _ h.over, refl));
       };
       clears = tt;
       arrives = λ x y. absurd (both_ways _ x y);
@@ -407,19 +407,19 @@ wait_tick g m t next ticks ws h rows l =
 at_rest_due : (j : Journey) (place : ℤ) (p : ProfileMeans) → AtRest j place p → due_in j p.gone p.gone ≡ pos 0
 at_rest_due none place p h = refl
 at_rest_due (on x l ls w) place p h = absurd h
-at_rest_due (waiting u x l ls w) place p h = absurd h
+at_rest_due (pausing u x l ls w) place p h = absurd h
 at_rest_due (held x l) place p h = (let z : p.gone / 1000 - p.gone / 1000 ≡ 0 = omega arith in ap (signed l.way) z ∙ signed_zero l.way)
 
 at_rest_next : (o : Bool) (j : Journey) (place : ℤ) (p : ProfileMeans) → AtRest j place p → ticked o j ≡ j
 at_rest_next o none place p h = refl
 at_rest_next o (on x l ls w) place p h = absurd h
-at_rest_next o (waiting u x l ls w) place p h = absurd h
+at_rest_next o (pausing u x l ls w) place p h = absurd h
 at_rest_next o (held x l) place p h = refl
 
 at_rest_travels : (j : Journey) (v : View) → AtRest j v.position v.profile → TravelsOn j v
 at_rest_travels none v h = tt
 at_rest_travels (on x l ls w) v h = absurd h
-at_rest_travels (waiting u x l ls w) v h = absurd h
+at_rest_travels (pausing u x l ls w) v h = absurd h
 at_rest_travels (held x l) v h = (h.0, h.1)
 
 pub one_more_none : (c : Bool) (u : Option Timing) → u ≡ None → cond c None (one_more u) ≡ None
@@ -431,7 +431,7 @@ no_sending None n h = tt
 no_sending (Some r) n h = h
 
 pub still_resting : (t : Trace) (o c : Bool) (place : ℤ) (p : ProfileMeans) → IsResting t place p
-    → IsResting (record { rows = t.rows; sent_to = t.sent_to; journey = ticked o t.journey; underway = cond c None (one_more t.underway); resting = sending t.resting (pos 0) }) place p
+    → IsResting (record { rows = t.rows; target = t.target; journey = ticked o t.journey; underway = cond c None (one_more t.underway); resting = sending t.resting (pos 0) }) place p
 still_resting t o c place p h =
     record {
       journey = subst (λ j. AtRest j place p) (sym (at_rest_next o t.journey place p h.journey)) h.journey;

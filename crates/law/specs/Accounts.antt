@@ -52,7 +52,7 @@ pub record Account : Type 0 where
   -- the latest programming: the Segments accepted since the last accepted Program
   pub rows : List Segment
   -- where the last accepted move was sent
-  pub sent_to : ℤ
+  pub target : ℤ
   pub journey : Journey
   -- from an accepted move until Move_Complete, an accepted Hold or a full stop
   pub underway : Option Timing
@@ -69,7 +69,7 @@ first_account d p =
       levels = record { limits = record { cw = false; ccw = false }; estop = false };
       start = 1;
       rows = [];
-      sent_to = d.place;
+      target = d.place;
       journey = none;
       underway = None;
       resting = None;
@@ -204,7 +204,7 @@ abbrev pub command_effect : Account → Command → Block → Effect
 command_effect a command.Absolute b = single a b (number_in b)
 command_effect a command.Relative b = single a b (a.view.position +ℤ number_in b)
 command_effect a command.Hold b = Holds
-command_effect a command.Resume b = single a b a.sent_to
+command_effect a command.Resume b = single a b a.target
 command_effect a command.Stop b = Stops
 command_effect a command.Preset b = Presets (number_in b)
 command_effect a command.Reset b = Nothing
@@ -235,8 +235,8 @@ effect a (EventCall n) ok = event_effect a (event_of n)
 effect a Tick ok = Ticks
 effect a (Reading ws) ok = Nothing
 
-abbrev pub accepted_effect : Account → Call → Answer → Effect
-accepted_effect a c r = effect a c (accepted r)
+abbrev pub effect_of : Account → Call → Answer → Effect
+effect_of a c r = effect a c (accepted r)
 
 -- the count
 abbrev pub counted_by : ℤ → Effect → ℤ → ℤ
@@ -248,13 +248,13 @@ counted_by z Ticks n = z +ℤ n
 counted_by z Nothing n = z
 
 -- where the last accepted move was sent
-abbrev pub sent_by : ℤ → Effect → ℤ
-sent_by to (Moves x r) = x
-sent_by to Holds = to
-sent_by to Stops = to
-sent_by to (Presets p) = to
-sent_by to Ticks = to
-sent_by to Nothing = to
+abbrev pub target_by : ℤ → Effect → ℤ
+target_by to (Moves x r) = x
+target_by to Holds = to
+target_by to Stops = to
+target_by to (Presets p) = to
+target_by to Ticks = to
+target_by to Nothing = to
 
 -- nothing is left of the profile's plan
 abbrev pub is_over : View → Bool
@@ -298,7 +298,7 @@ resting_by s Nothing n v = s
 -- the account after a moment
 abbrev pub account_after : Account → Call → Answer → View → Account
 account_after a c r v =
-    let e : Effect = accepted_effect a c r in
+    let e : Effect = effect_of a c r in
     record {
       view = v;
       counted = counted_by a.counted e (steps_in r);
@@ -306,7 +306,7 @@ account_after a c r v =
       levels = levels_after a.levels c;
       start = start_after a.start c (accepted r);
       rows = rows_after a.rows (ordered a.kept c (accepted r));
-      sent_to = sent_by a.sent_to e;
+      target = target_by a.target e;
       journey = journey_by a.view.position a.journey e v;
       underway = underway_by a.underway e v;
       resting = resting_by a.resting e (steps_in r) v;

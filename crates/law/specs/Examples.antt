@@ -5,7 +5,7 @@ use Rattle.drive.specs.Positions.{distance}
 use Rattle.profile.specs.Plans.{PlanMeans}
 use Rattle.law.specs.Accounts.{Account, Timing, Rest, first_account, account_after}
 use Rattle.law.specs.Calls.{Call, SetUp, Block, Event, Tick, Answer, Replied, Sent}
-use Rattle.law.specs.Journeys.{Journey, none, on, waiting, held}
+use Rattle.law.specs.Journeys.{Journey, none, on, pausing, held}
 use Rattle.law.specs.Moments.{Moment, view_of}
 
 -- the words of a block: command bits, options, place, speed, acceleration, deceleration, dwell
@@ -132,13 +132,13 @@ rest_is (Some r) a n = r.allowed == a && r.sent == n
 abbrev waited_is : Journey → ℕ → Bool
 waited_is none n = false
 waited_is (on x l ls w) n = false
-waited_is (waiting u x l ls w) n = u == n
+waited_is (pausing u x l ls w) n = u == n
 waited_is (held x l) n = false
 
 abbrev held_is : Journey → Bool
 held_is none = false
 held_is (on x l ls w) = false
-held_is (waiting u x l ls w) = false
+held_is (pausing u x l ls w) = false
 held_is (held x l) = true
 
 unfoldable pub holds : Example → Bool
@@ -146,7 +146,7 @@ holds (under_way ms a p) = timing_is (told_of ms).underway a p
 holds (at_rest ms a n) = rest_is (told_of ms).resting a n
 holds (in_pause ms u) = waited_is (told_of ms).journey u
 holds (is_held ms) = held_is (told_of ms).journey
-holds (arrives ms x) = let a : Account = told_of ms in a.view.complete && (distance a.view.position (pos x) == 0 && distance a.sent_to (pos x) == 0)
+holds (arrives ms x) = let a : Account = told_of ms in a.view.complete && (distance a.view.position (pos x) == 0 && distance a.target (pos x) == 0)
 
 unfoldable pub table : List Example
 table =

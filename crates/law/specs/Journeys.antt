@@ -40,7 +40,7 @@ pub data Journey : Type 0 where
   -- on a leg that set out from a place; the legs after it, and the pause before each of them
   on : (from : ℤ) → Leg → List Leg → (pause : ℕ) → Journey
   -- in a pause at a place: the ticks waited, the next leg, the legs after it and the pause
-  waiting : (waited : ℕ) → (at : ℤ) → Leg → List Leg → (pause : ℕ) → Journey
+  pausing : (waited : ℕ) → (at : ℤ) → Leg → List Leg → (pause : ℕ) → Journey
   -- after a hold on a leg that set out from a place: coming to rest, or at rest
   held : (from : ℤ) → Leg → Journey
 
@@ -53,21 +53,21 @@ set_out x (l ∷ ls) pause = on x l ls pause
 abbrev pub on_leg : Bool → ℤ → Leg → List Leg → ℕ → Journey
 on_leg false x l ls w = on x l ls w
 on_leg true x l [] w = none
-on_leg true x l (n ∷ ls) w = waiting 0 (leg_end x l) n ls w
+on_leg true x l (n ∷ ls) w = pausing 0 (leg_end x l) n ls w
 
 -- a tick after which the profile has gone all that is asked for, or has not; a pause has exactly its ticks, and the tick after them is
 -- the first of the next leg
 abbrev pub ticked : Bool → Journey → Journey
 ticked over none = none
 ticked over (on x l ls w) = on_leg over x l ls w
-ticked over (waiting u x l ls w) = cond (nat_lt u w) (waiting (suc u) x l ls w) (on_leg over x l ls w)
+ticked over (pausing u x l ls w) = cond (nat_lt u w) (pausing (suc u) x l ls w) (on_leg over x l ls w)
 ticked over (held x l) = held x l
 
 -- a hold; in a pause nothing is in motion
 abbrev pub braked : Journey → Journey
 braked none = none
 braked (on x l ls w) = held x l
-braked (waiting u x l ls w) = none
+braked (pausing u x l ls w) = none
 braked (held x l) = held x l
 
 -- the whole steps of gone after a tick that were not sent before it, with the sign of the leg's direction
@@ -79,5 +79,5 @@ fresh l before after = signed l.way (after / 1000 - before / 1000)
 abbrev pub due_in : Journey → ℕ → ℕ → ℤ
 due_in none before after = pos 0
 due_in (on x l ls w) before after = fresh l before after
-due_in (waiting u x l ls w) before after = cond (nat_lt u w) (pos 0) (fresh l 0 after)
+due_in (pausing u x l ls w) before after = cond (nat_lt u w) (pos 0) (fresh l 0 after)
 due_in (held x l) before after = fresh l before after

@@ -5,30 +5,30 @@ use Rattle.profile.specs.Profiles.{fastest, up_div}
 use Rattle.block.specs.Frames.{pair_at}
 use Rattle.block.specs.Pairs.{decoded}
 use Rattle.axis.specs.Readings.{is_short, reading_answer}
-use Rattle.law.specs.Accounts.{Account, Timing, Rest, Effect, Moves, Holds, Stops, Presets, Ticks, Nothing, accepted_effect, account_after, is_over}
+use Rattle.law.specs.Accounts.{Account, Timing, Rest, Effect, Moves, Holds, Stops, Presets, Ticks, Nothing, effect_of, account_after, is_over}
 use Rattle.law.specs.Calls.{Call, SetUp, Block, Event, Tick, Reading, Answer, Sent, Read, steps_in}
-use Rattle.law.specs.Journeys.{Leg, Journey, none, on, waiting, held, along, due_in}
+use Rattle.law.specs.Journeys.{Leg, Journey, none, on, pausing, held, along, due_in}
 use Rattle.law.specs.Moments.{Moment, View, view_of}
 
 -- The profile has exactly the leg's plan, and the position is the leg's beginning plus, in the leg's direction, the whole steps of gone.
-abbrev pub Along : ℤ → Leg → View → Type 0
-Along x l v = (v.profile.plan ≡ Some l.plan) × (v.position ≡ along x l v.profile.gone)
+abbrev pub OnPlan : ℤ → Leg → View → Type 0
+OnPlan x l v = (v.profile.plan ≡ Some l.plan) × (v.position ≡ along x l v.profile.gone)
 
 -- Where the journey is: on a leg, also while it is held, the position keeps up with gone; in a pause the leg before is over, and the
 -- position is its end.
 abbrev pub Travels : Journey → View → Type 0
 Travels none v = Unit {0}
-Travels (on x l ls w) v = Along x l v
-Travels (waiting u x l ls w) v = (is_over v ≡ true) × (v.position ≡ x)
-Travels (held x l) v = Along x l v
+Travels (on x l ls w) v = OnPlan x l v
+Travels (pausing u x l ls w) v = (is_over v ≡ true) × (v.position ≡ x)
+Travels (held x l) v = OnPlan x l v
 
 -- What the journey says of a tick that comes next: it is on the leg, or it is in the pause, or after the whole pause, neither earlier nor
 -- later, it is on the next leg. So a leg of one tick shows its plan too.
 abbrev pub TravelsOn : Journey → View → Type 0
 TravelsOn none v = Unit {0}
-TravelsOn (on x l ls w) v = Along x l v
-TravelsOn (waiting u x l ls w) v = MatchBool (nat_lt u w) ((is_over v ≡ true) × (v.position ≡ x)) (Along x l v)
-TravelsOn (held x l) v = Along x l v
+TravelsOn (on x l ls w) v = OnPlan x l v
+TravelsOn (pausing u x l ls w) v = MatchBool (nat_lt u w) ((is_over v ≡ true) × (v.position ≡ x)) (OnPlan x l v)
+TravelsOn (held x l) v = OnPlan x l v
 
 -- steps that the drive takes; where there are none it is not called
 abbrev pub Takes : ℕ → DriveMeans → ℤ → ℤ → Type 0
@@ -75,14 +75,14 @@ InTime (Some t) = t.passed < t.allowed
 abbrev pub Still : Journey → View → Type 0
 Still none v = Unit {0}
 Still (on x l ls w) v = ⊥
-Still (waiting u x l ls w) v = ⊥
+Still (pausing u x l ls w) v = ⊥
 Still (held x l) v = is_over v ≡ true
 
 -- a leg is travelled, or the pause after one
 abbrev pub Travelling : Journey → Type 0
 Travelling none = ⊥
 Travelling (on x l ls w) = Unit {0}
-Travelling (waiting u x l ls w) = Unit {0}
+Travelling (pausing u x l ls w) = Unit {0}
 Travelling (held x l) = ⊥
 
 -- Only a hold and a full stop stop a move: a move and a preset are accepted only where nothing moves and no move is under way, a hold only
@@ -97,7 +97,7 @@ Stands a Nothing = Unit {0}
 
 -- where Move_Complete comes on, the position is where the move was sent, and nothing of the journey is left
 abbrev pub Arrives : Account → Journey → View → Type 0
-Arrives a j v = a.view.complete ≡ false → v.complete ≡ true → (v.position ≡ a.sent_to) × Still j v
+Arrives a j v = a.view.complete ≡ false → v.complete ≡ true → (v.position ≡ a.target) × Still j v
 
 -- no more ticks have sent steps than may
 abbrev pub Settles : Option Rest → Type 0
@@ -118,10 +118,10 @@ pub record Law (g : ℕ) (a : Account) (c : Call) (r : Answer) (ws : List ℤ) (
   -- a move travels its legs in order, each with exactly its plan, and each pause has exactly its ticks
   pub travels : Travels (account_after a c r v).journey v
   -- a move that nothing stops ends within its ticks, exactly where it was sent
-  pub clears : Clears (accepted_effect a c r) v
+  pub clears : Clears (effect_of a c r) v
   pub in_time : InTime (account_after a c r v).underway
   pub arrives : Arrives a (account_after a c r v).journey v
-  pub stands : Stands a (accepted_effect a c r)
+  pub stands : Stands a (effect_of a c r)
   -- after a hold only so many ticks send steps, and after a full stop none, until the next accepted move
   pub rests : Settles (account_after a c r v).resting
 
