@@ -1,10 +1,9 @@
 -- The order that each command gives, in the numbers of its block.
-use Rattle.std.proofs.Common.{◌≡◌, ℕ, Bool, true, false, cond, not, ◌||◌, ◌&&◌, ℤ, ◌+ℤ◌, nat_abs, leb, Some, None, Ok, Err, Option, Result, refl, subst}
-use Rattle.std.proofs.lemmas.Bool.{and_parts}
+use Rattle.std.proofs.Common.{◌≡◌, ℕ, Bool, true, false, cond, not, ◌||◌, ◌&&◌, ℤ, ◌+ℤ◌, nat_abs, leb, Some, None, Ok, Err, Result}
 use Rattle.drive.specs.Directions.{toward}
 use Rattle.drive.specs.Positions.{is_position}
 use Rattle.drive.specs.declared.direction.Direction.{Direction}
-use Rattle.block.specs.Frames.{is_dwell_of, direction_of, clears_trip_of}
+use Rattle.block.specs.Frames.{direction_of}
 use Rattle.block.specs.Pairs.{opposite, joined, decoded}
 use Rattle.block.specs.declared.command.Command.TheVariants as command
 use Rattle.block.specs.declared.frame.Block.{Block}
@@ -14,7 +13,7 @@ use Rattle.block.specs.declared.refusal.Refusal.TheVariants as refusal
 use Rattle.table.specs.Courses.{goes_to, stays_on, is_clear, are_clear}
 use Rattle.axis.proofs.Orders.{passes, moves}
 use Rattle.axis.specs.Axes.{AxisMeans}
-use Rattle.axis.specs.Judging.{asked, then_ask, heard, said, numbers_of, rates_fit, dwell_fits, pace_fits, rates_of, leg_of, segment_of, run_of, on_its_course, go_judged, leg_asked, led_to, segment_fits, absolute_asked, relative_asked, segment_asked, dwell_judged, blend_judged, resume_judged, preset_judged, values_judged}
+use Rattle.axis.specs.Judging.{asked, then_ask, said, numbers_of, rates_fit, dwell_fits, pace_fits, rates_of, leg_of, run_of, on_its_course, go_judged, leg_asked, led_to, segment_fits, absolute_asked, relative_asked, segment_asked, dwell_judged, blend_judged, resume_judged, preset_judged, values_judged}
 use Rattle.axis.specs.Plans.{blend_end}
 use Rattle.axis.specs.declared.numbers.Numbers.{Numbers}
 use Rattle.axis.specs.declared.order.Order.{Order}

@@ -11,6 +11,7 @@ pub record AxisMeans : Type 0 where
   pub profile : ProfileMeans
   pub memory : MemoryMeans
 
+-- what an axis means, by what its kinds of drive and of profile mean
 abbrev pub meaning : {D P : Type 0} → drive.Ghosts D → profile.Ghosts P → Axis D P → AxisMeans
 meaning d p a = record { drive = d.means a.drive; profile = p.means a.profile; memory = memory_means a.memory }
 
@@ -18,6 +19,6 @@ meaning d p a = record { drive = d.means a.drive; profile = p.means a.profile; m
 abbrev pub with_memory : AxisMeans → MemoryMeans → AxisMeans
 with_memory m k = record { drive = m.drive; profile = m.profile; memory = k }
 
--- at power-up
+-- at power-up, over a drive and a profile that mean these
 abbrev pub powered_up : DriveMeans → ProfileMeans → AxisMeans
 powered_up d p = record { drive = d; profile = p; memory = first_memory }

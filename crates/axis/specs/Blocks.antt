@@ -23,7 +23,7 @@ closes k bits = programs k.state && falls (2 ^ bit_of command.Program) k.kept bi
 abbrev pub kept_by : MemoryMeans → ℕ → MemoryMeans
 kept_by k bits = with_kept (cond (closes k bits) (with_state (with_table k (closed k.table)) Idle) k) bits
 
--- a refused command sets Command_Error; one refused for a limit sets Input_Error too
+-- the refusal with 10
 abbrev pub is_limit : Refusal → Bool
 is_limit refusal.WordCount = false
 is_limit refusal.ReservedBits = false
@@ -39,6 +39,7 @@ is_limit refusal.EventCode = false
 is_limit refusal.ShortBuffer = false
 is_limit refusal.StartSpeed = false
 
+-- a refused command sets Command_Error, and one refused with 10 Input_Error too
 abbrev pub marked : MemoryMeans → Refusal → MemoryMeans
 marked k why = with_flags k (cond (is_limit why) (with_input (with_command k.flags true) true) (with_command k.flags true))
 
@@ -62,27 +63,31 @@ abbrev pub calls : (Order → Bool) → Result Order Refusal → Bool
 calls f (Ok o) = f o
 calls f (Err why) = false
 
--- the axis once the word of a block is kept, and what the block then orders
+-- the axis once the word of a block is kept
 abbrev pub kept_axis : AxisMeans → Block → AxisMeans
 kept_axis m b = with_memory m (kept_by m.memory b.bits)
 
+-- what a block orders, or why it is refused
 abbrev pub order_of : ℕ → AxisMeans → Block → Result Order Refusal
 order_of g m b = judged g (kept_axis m b) (rising m.memory.kept b.bits) b
 
--- What a block of words does. Words that cannot be read change nothing at all; of any other block the word is kept, and it is
--- carried out or refused. Only what its order calls is touched.
+-- what a block answers; g is the drive's reach, and words that cannot be read are refused with 1 or 2
 abbrev pub answer_of : ℕ → AxisMeans → Result Block Refusal → Result (Unit {0}) Refusal
 answer_of g m (Ok b) = answered (order_of g m b)
 answer_of g m (Err why) = Err why
 
+-- What it makes of the axis, where the profile then means p. Words that cannot be read change nothing at all; of any other block the word
+-- is kept, and its order carried out or its refusal noted.
 abbrev pub after : ℕ → AxisMeans → Result Block Refusal → ProfileMeans → AxisMeans
 after g m (Ok b) p = finished (kept_axis m b) (order_of g m b) p
 after g m (Err why) p = m
 
+-- what it makes of the profile
 abbrev pub UsesOf : ℕ → AxisMeans → Result Block Refusal → ProfileMeans → Type 0
 UsesOf g m (Ok b) p = UsesBy (kept_axis m b) (order_of g m b) p
 UsesOf g m (Err why) p = p ≡ m.profile
 
+-- whether it calls the drive, or the profile, by what an order calls
 abbrev pub calls_of : (Order → Bool) → ℕ → AxisMeans → Result Block Refusal → Bool
 calls_of f g m (Ok b) = calls f (order_of g m b)
 calls_of f g m (Err why) = false

@@ -47,17 +47,19 @@ held (Pausing next ticks) m p = record { drive = m.drive; profile = p; memory = 
 held (Holding travel) m p = m
 held (Held target) m p = m
 
--- a preset: the drive is set, the position is valid, and a held move is abandoned
+-- a preset: Position_Invalid and Move_Complete are cleared, and a held move is abandoned
 abbrev pub preset_memory : MemoryMeans → MemoryMeans
 preset_memory k = with_state (with_flags k (with_complete (with_invalid k.flags false) false)) Idle
 
+-- the drive is set to a place too
 abbrev pub preset : AxisMeans → ℤ → AxisMeans
 preset m x = record { drive = landed m.drive (setting x); profile = m.profile; memory = preset_memory m.memory }
 
--- Reset Errors clears Command_Error, Input_Error and Move_Complete, and the trip where that is asked for
+-- Reset Errors clears Command_Error, Input_Error and Move_Complete
 abbrev pub reset_memory : MemoryMeans → MemoryMeans
 reset_memory k = with_flags k (with_complete (with_input (with_command k.flags false) false) false)
 
+-- and the trip where that is asked for
 abbrev pub reset : AxisMeans → Bool → AxisMeans
 reset m trip = record { drive = cond trip (with_trip m.drive false) m.drive; profile = m.profile; memory = reset_memory m.memory }
 
@@ -65,6 +67,7 @@ reset m trip = record { drive = cond trip (with_trip m.drive false) m.drive; pro
 abbrev pub programmed : MemoryMeans → MemoryMeans
 programmed k = with_state (with_table k (emptied k.table.start)) Programming
 
+-- what each order makes of the axis
 abbrev pub carried : AxisMeans → Order → ProfileMeans → AxisMeans
 carried m order.Nothing p = m
 carried m (order.Go leg) p = began m (go_travel m leg) p
@@ -90,7 +93,7 @@ Uses m (order.Segment s) p = p ≡ m.profile
 Uses m (order.Blend way rates) p = Begun m.profile (blend_plan m.memory.table rates) p
 Uses m (order.Dwell run) p = Begun m.profile (row_plan m.memory.table run.rates 0) p
 
--- an order that calls the profile, and one that calls the drive
+-- an order that calls the profile
 abbrev pub calls_profile : Order → Bool
 calls_profile order.Nothing = false
 calls_profile (order.Go leg) = true
@@ -103,6 +106,7 @@ calls_profile (order.Segment s) = false
 calls_profile (order.Blend way rates) = true
 calls_profile (order.Dwell run) = true
 
+-- an order that calls the drive
 abbrev pub calls_drive : Order → Bool
 calls_drive order.Nothing = false
 calls_drive (order.Go leg) = false

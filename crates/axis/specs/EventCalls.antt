@@ -22,16 +22,19 @@ travels (Pausing next ticks) = true
 travels (Holding travel) = true
 travels (Held target) = false
 
+-- the limit in a direction so, and the other levels as they are
 abbrev pub with_level : Levels → Direction → Bool → Levels
 with_level l way on = record { limits = with_limit l.limits way on; estop = l.estop }
 
+-- the E-stop so, and the limits as they are
 abbrev pub with_estop : Levels → Bool → Levels
 with_estop l on = record { limits = l.limits; estop = on }
 
--- a limit that comes on stops what travels, whatever its direction
+-- a limit that comes on stops what travels, whatever its direction, and then sets Input_Error
 abbrev pub limited : MemoryMeans → MemoryMeans
 limited k = cond (travels k.state) (halted_by_input k) k
 
+-- what each event makes of the axis
 abbrev pub event_after : AxisMeans → Event → AxisMeans
 event_after m (event.Limit way true) =
     with_memory m (cond (is_clear m.memory.levels.limits way) (limited (with_levels m.memory (with_level m.memory.levels way true))) m.memory)
@@ -48,15 +51,17 @@ calls_drive m (event.Limit way on) = false
 calls_drive m (event.EStop on) = false
 calls_drive m event.Trip = cond m.drive.tripped false true
 
--- by its code, which has to be an event's
+-- what an event answers, by its code, which has to be an event's
 abbrev pub answer_of : Result Event Refusal → Result (Unit {0}) Refusal
 answer_of (Ok e) = Ok tt
 answer_of (Err why) = Err why
 
+-- what it makes of the axis; any other code changes nothing
 abbrev pub after_of : AxisMeans → Result Event Refusal → AxisMeans
 after_of m (Ok e) = event_after m e
 after_of m (Err why) = m
 
+-- whether it calls the drive
 abbrev pub calls_of : AxisMeans → Result Event Refusal → Bool
 calls_of m (Ok e) = calls_drive m e
 calls_of m (Err why) = false

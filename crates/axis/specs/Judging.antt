@@ -34,11 +34,12 @@ abbrev pub then_ask : {X Y : Type 0} → Result X Refusal → (X → Result Y Re
 then_ask (Ok x) next = next x
 then_ask (Err why) next = Err why
 
--- do two words obey the pair rule? The next questions are about the number that they say.
+-- Are two words a pair? The next questions are about the number that they say.
 abbrev pub heard : Option ℤ → Result ℤ Refusal
 heard None = Err refusal.Pair
 heard (Some n) = Ok n
 
+-- the question, and those after it
 abbrev pub said : {X : Type 0} → Option ℤ → (ℤ → Result X Refusal) → Result X Refusal
 said n next = then_ask (heard n) next
 
@@ -46,7 +47,7 @@ said n next = then_ask (heard n) next
 unfoldable pub numbers_of : Block → Result Numbers Refusal
 numbers_of b = said (decoded b.place) (λ place. said (decoded b.speed) (λ v. Ok (record { block = b; place = place; speed = v })))
 
--- states
+-- Idle and Held
 abbrev pub rests : State → Bool
 rests Idle = true
 rests Programming = false
@@ -55,6 +56,7 @@ rests (Pausing next ticks) = false
 rests (Holding travel) = false
 rests (Held target) = true
 
+-- Running, also in a pause
 abbrev pub runs : State → Bool
 runs Idle = false
 runs Programming = false
@@ -63,6 +65,7 @@ runs (Pausing next ticks) = true
 runs (Holding travel) = false
 runs (Held target) = false
 
+-- Programming
 abbrev pub programs : State → Bool
 programs Idle = false
 programs Programming = true
@@ -80,11 +83,12 @@ held_target (Pausing next ticks) = None
 held_target (Holding travel) = None
 held_target (Held target) = Some target
 
--- is there one? The next questions are about it.
+-- Is there one? The next questions are about it.
 abbrev pub on_held : {X : Type 0} → Option ℤ → (ℤ → Result X Refusal) → Result X Refusal
 on_held None next = Err refusal.State
 on_held (Some target) next = next target
 
+-- Held
 abbrev pub is_held : State → Bool
 is_held s = elim (held_target s) [ None ↦ false | Some target ↦ true ]
 
@@ -105,28 +109,35 @@ allowed m command.Run = rests m.memory.state && (not m.memory.flags.configuratio
 abbrev pub in_range : ℤ → ℤ → ℤ → Bool
 in_range low high n = not (int_lt n low) && not (int_lt high n)
 
+-- a speed from S to 1000 times the drive's reach
 unfoldable pub speed_fits : ℕ → AxisMeans → ℤ → Bool
 speed_fits g m v = in_range (pos m.memory.table.start) (pos (1000 * g)) v
 
+-- an acceleration or a deceleration from 1 to 5,000
 unfoldable pub rate_fits : ℤ → Bool
 rate_fits n = in_range (pos 1) (pos 5000) n
 
+-- both of a block
 unfoldable pub rates_fit : Block → Bool
 rates_fit b = rate_fits b.accel && rate_fits b.decel
 
+-- a dwell from 0 to 30,000 ticks
 unfoldable pub dwell_fits : Block → Bool
 dwell_fits b = in_range (pos 0) (pos 30000) b.dwell
 
--- the numbers of a block, once they are in range
+-- the rates of a block, once they are in range
 abbrev pub rates_of : Block → Rates
 rates_of b = record { accel = unsigned_abs b.accel; decel = unsigned_abs b.decel }
 
+-- the single move that numbers in range ask for
 abbrev pub leg_of : Numbers → Leg
 leg_of n = record { target = n.place; speed = unsigned_abs n.speed; rates = rates_of n.block }
 
+-- the row of the table that numbers in range ask for
 abbrev pub segment_of : Numbers → Segment
 segment_of n = record { distance = n.place; speed = unsigned_abs n.speed }
 
+-- the rates and the dwell of a dwell move, once they are in range
 abbrev pub run_of : Block → DwellRun
 run_of b = record { rates = rates_of b; dwell = unsigned_abs b.dwell }
 
@@ -148,7 +159,7 @@ on_its_course m target way o = then_ask (on_course m target way) (λ done. Ok o)
 unfoldable pub go_judged : AxisMeans → Leg → Result Order Refusal
 go_judged m leg = on_its_course m leg.target (toward m.drive.place leg.target) (order.Go leg)
 
--- the speed and the rates of a move
+-- the speed and the rates of a move are in range
 unfoldable pub pace_fits : ℕ → AxisMeans → Numbers → Bool
 pace_fits g m n = speed_fits g m n.speed && rates_fit n.block
 
@@ -169,6 +180,7 @@ abbrev pub valid_asked : ℕ → AxisMeans → Numbers → Result Order Refusal
 valid_asked g m n =
     move_asked m (pace_fits g m n) (asked (not m.memory.flags.invalid) refusal.PositionInvalid (go_judged m (leg_of n)))
 
+-- its target has to be a position
 abbrev pub absolute_asked : ℕ → AxisMeans → Numbers → Result Order Refusal
 absolute_asked g m n = asked (is_position n.place) refusal.Range (valid_asked g m n)
 
@@ -176,24 +188,29 @@ absolute_asked g m n = asked (is_position n.place) refusal.Range (valid_asked g 
 abbrev pub led_to : AxisMeans → Numbers → Numbers
 led_to m n = record { block = n.block; place = m.drive.place +ℤ n.place; speed = n.speed }
 
+-- its offset has to be a position
 abbrev pub relative_asked : ℕ → AxisMeans → Numbers → Result Order Refusal
 relative_asked g m n = asked (is_position n.place) refusal.Range (leg_asked g m (led_to m n))
 
+-- Absolute, from the fifth question on
 abbrev pub absolute_judged : ℕ → AxisMeans → Block → Result Order Refusal
 absolute_judged g m b = then_ask (numbers_of b) (absolute_asked g m)
 
+-- Relative, from the fifth question on
 abbrev pub relative_judged : ℕ → AxisMeans → Block → Result Order Refusal
 relative_judged g m b = then_ask (numbers_of b) (relative_asked g m)
 
+-- Resume to the target of the held move, from the fifth question on
 abbrev pub resume_judged : ℕ → AxisMeans → Block → ℤ → Result Order Refusal
 resume_judged g m b target = said (decoded b.speed) (λ v. leg_asked g m (record { block = b; place = target; speed = v }))
 
+-- a blend, from the sixth question on
 abbrev pub blend_judged : AxisMeans → Block → Result Order Refusal
 blend_judged m b =
     move_asked m (rates_fit b)
     (on_its_course m (blend_end m (direction_of b)) (direction_of b) (order.Blend (direction_of b) (rates_of b)))
 
--- each row of a dwell move is asked
+-- a dwell move, from the sixth question on; each of its rows is asked
 abbrev pub dwell_judged : AxisMeans → Block → Result Order Refusal
 dwell_judged m b =
     move_asked m (rates_fit b && dwell_fits b)
@@ -201,23 +218,27 @@ dwell_judged m b =
     (asked (are_clear m.memory.levels.limits m.memory.table.rows) refusal.Limit
     (Ok (order.Dwell (run_of b)))))
 
+-- Preset, from the fifth question on
 abbrev pub preset_judged : Block → Result Order Refusal
 preset_judged b = said (decoded b.place) (λ p. asked (is_position p) refusal.Range (Ok (order.Preset p)))
 
--- a row of the table: not of 0 steps, and within the positions
+-- the distance of a segment: a position, and not 0
 unfoldable pub distance_fits : ℤ → Bool
 distance_fits d = not (unsigned_abs d == 0) && is_position d
 
+-- the distance and the speed of a segment are in range
 abbrev pub segment_fits : ℕ → AxisMeans → Numbers → Bool
 segment_fits g m n = distance_fits n.place && speed_fits g m n.speed
 
+-- a segment is then added
 abbrev pub segment_asked : ℕ → AxisMeans → Numbers → Result Order Refusal
 segment_asked g m n = asked (segment_fits g m n) refusal.Range (Ok (order.Segment (segment_of n)))
 
+-- Segment, from the fifth question on
 abbrev pub segment_judged : ℕ → AxisMeans → Block → Result Order Refusal
 segment_judged g m b = then_ask (numbers_of b) (segment_asked g m)
 
--- a command that the state allows
+-- a command that the state allows, from the fifth question on
 abbrev pub values_judged : ℕ → AxisMeans → Block → Command → Result Order Refusal
 values_judged g m b command.Absolute = absolute_judged g m b
 values_judged g m b command.Relative = relative_judged g m b
@@ -230,11 +251,12 @@ values_judged g m b command.Program = Ok order.Program
 values_judged g m b command.Segment = segment_judged g m b
 values_judged g m b command.Run = cond (is_dwell_of b) (dwell_judged m b) (blend_judged m b)
 
--- what a block orders by the bits that rise
+-- a block, from the third question on, by what its rising bits command
 abbrev pub command_judged : ℕ → AxisMeans → Block → Result (Option Command) Refusal → Result Order Refusal
 command_judged g m b (Err why) = Err why
 command_judged g m b (Ok None) = Ok order.Nothing
 command_judged g m b (Ok (Some c)) = asked (allowed m c) refusal.State (values_judged g m b c)
 
+-- the same, by the bits that rise
 abbrev pub judged : ℕ → AxisMeans → ℕ → Block → Result Order Refusal
 judged g m rising b = command_judged g m b (commanded rising)

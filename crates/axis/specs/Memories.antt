@@ -11,9 +11,12 @@ use Rattle.axis.specs.declared.state.State.TheVariants.{Idle}
 pub record MemoryMeans : Type 0 where
   pub table : TableMeans
   pub state : State
+  -- word 0 of the last block that was kept
   pub kept : ℕ
   pub flags : Flags
+  -- the levels of the limits and of the E-stop
   pub levels : Levels
+  -- the last two advances of the plan
   pub pace : Pace
 
 abbrev pub memory_means : Memory → MemoryMeans

@@ -48,10 +48,11 @@ moves way (Pausing next ticks) = false
 moves way (Holding travel) = is_same way travel.direction
 moves way (Held target) = false
 
--- in motion with the last advance above the one before, or below it
+-- in motion, with the last advance above the one before
 abbrev pub accelerates : MemoryMeans → Bool
 accelerates k = is_moving k.state && nat_lt k.pace.before k.pace.last
 
+-- in motion, with the last advance below the one before
 abbrev pub decelerates : MemoryMeans → Bool
 decelerates k = is_moving k.state && nat_lt k.pace.last k.pace.before
 
@@ -82,7 +83,7 @@ status_of m =
 abbrev pub inputs_of : AxisMeans → ℕ
 inputs_of m = flag 7 m.drive.tripped + flag 2 m.memory.levels.estop + flag 1 m.memory.levels.limits.ccw + flag 0 m.memory.levels.limits.cw
 
--- both, the pair of the position, and six words that are 0
+-- the status, the inputs, the pair of the position, and six words that are 0
 abbrev pub status_words : AxisMeans → List ℤ
 status_words m =
     pos (status_of m)
@@ -97,13 +98,14 @@ status_words m =
     ∷ pos 0
     ∷ []
 
--- a buffer that is too short for the ten words is refused
+-- a buffer that is too short for the ten words
 abbrev pub is_short : List ℤ → Bool
 is_short ws = nat_lt (length ws) 10
 
+-- it is refused, and any other is not
 abbrev pub reading_answer : List ℤ → Result (Unit {0}) Refusal
 reading_answer ws = cond (is_short ws) (Err refusal.ShortBuffer) (Ok tt)
 
--- and stays as it is; in any other the words past the tenth do
+-- it stays as it is; any other has the ten words first, and its words past the tenth stay
 abbrev pub read_into : AxisMeans → List ℤ → List ℤ
 read_into m ws = cond (is_short ws) ws (status_words m ++ drop 10 ws)

@@ -18,10 +18,11 @@ use Rattle.bed.specs.declared.kind.Smoothings.TheVariants.{Unsmoothed, Once, Twi
 abbrev pub kind_of : Smoothings → BaseProfile → ProfileKind
 kind_of smoothings base = record { base = base; smoothings = smoothings }
 
+-- the drive that a word names
 abbrev pub drive_word : List ℕ → Result DriveKind LineFault
 drive_word w = cond (bytes_eq w (codes "pulse")) (Ok Pulse) (cond (bytes_eq w (codes "phase")) (Ok Phase) (Err UnknownDrive))
 
--- a profile that stands on no other
+-- the profile that a word names, which stands on no other
 abbrev pub base_word : List ℕ → Result BaseProfile LineFault
 base_word w = cond (bytes_eq w (codes "creep")) (Ok Creep) (cond (bytes_eq w (codes "ramp")) (Ok Ramp) (Err UnknownProfile))
 
@@ -49,6 +50,7 @@ abbrev pub profile_with : Part → List (List ℕ) → Result ProfileKind LineFa
 profile_with (Base base) ws = complete (kind_of Unsmoothed base) ws
 profile_with (Smoothing outer) ws = next_part ws (smooth_with outer)
 
+-- all of it, from the first word on
 abbrev pub profile_of : List (List ℕ) → Result ProfileKind LineFault
 profile_of ws = next_part ws profile_with
 

@@ -6,13 +6,15 @@ use Rattle.text.specs.Decimals.{natural_of, number_of, word_of}
 use Rattle.bed.specs.declared.fault.LineFault.{LineFault}
 use Rattle.bed.specs.declared.fault.LineFault.TheVariants.{MissingWord, ExtraWord, NotANumber}
 
--- a signed number of 32 bits, an unsigned one, and a signed one of 16 bits
+-- a signed number of 32 bits
 abbrev pub integer : List ℕ → Result ℤ LineFault
 integer w = ok_or (number_of w) NotANumber
 
+-- an unsigned number of 32 bits
 abbrev pub natural : List ℕ → Result ℕ LineFault
 natural w = ok_or (natural_of w) NotANumber
 
+-- a word of a block: a signed number of 16 bits, by its value or its bits
 abbrev pub short : List ℕ → Result ℤ LineFault
 short w = ok_or (word_of w) NotANumber
 

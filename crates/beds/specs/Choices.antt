@@ -17,16 +17,17 @@ reach_of Phase = 20
 abbrev pub smoothed_lag : ℕ → ℕ → ℕ
 smoothed_lag lag length = lag + (length_for length - 1)
 
--- the lag of a profile that lags by nothing itself
+-- the lag of smoothings over a profile that has none itself
 abbrev pub lag_with : Smoothings → ℕ
 lag_with Unsmoothed = 0
 lag_with (Once length) = smoothed_lag 0 length
 lag_with (Twice outer inner) = smoothed_lag (smoothed_lag 0 inner) outer
 
+-- the lag of a profile of a kind: creep and constant acceleration have none themselves
 abbrev pub lag_of : ProfileKind → ℕ
 lag_of kind = lag_with kind.smoothings
 
--- a profile that has had no plan, and its lag
+-- a profile that has had no plan, with this lag
 pub record Fresh (lag : ℕ) (m : ProfileMeans) : Type 0 where
   pub plan : m.plan ≡ None
   pub asked : m.asked ≡ 0

@@ -16,6 +16,7 @@ code_of (event.EStop true) = 5
 code_of (event.EStop false) = 6
 code_of event.Trip = 7
 
+-- the code is this event's: then it is the event; otherwise what else it is
 abbrev pub or_else : ℕ → Event → Result Event Refusal → Result Event Refusal
 or_else n e other = cond (n == code_of e) (Ok e) other
 

@@ -10,10 +10,11 @@ use Rattle.block.specs.declared.refusal.Refusal.TheVariants as refusal
 use Rattle.drive.specs.declared.direction.Direction.{Direction}
 use Rattle.drive.specs.declared.direction.Direction.TheVariants.{Cw, Ccw}
 
--- word k of a list of words, and its sixteen bits
+-- word k of a list of words
 abbrev pub word_at : List ℤ → ℕ → ℤ
 word_at ws k = slice_index_or ws k (pos 0)
 
+-- its sixteen bits
 abbrev pub bits_at : List ℤ → ℕ → ℕ
 bits_at ws k = of_z w16 (word_at ws k)
 
@@ -36,10 +37,11 @@ block_of ws =
     (cond (meets reserved (bits_at ws 0)) (Err refusal.ReservedBits) (Ok (framed ws)))
     (Err refusal.WordCount)
 
--- word 1: bit 0 makes Run a dwell move, bit 1 a blend counterclockwise, and bit 10 has Reset Errors clear the trip
+-- bit 0 of word 1 makes Run a dwell move
 abbrev pub is_dwell_of : Block → Bool
 is_dwell_of b = is_set 0 b.options
 
+-- bit 1 of word 1 makes a blend go counterclockwise
 abbrev pub is_ccw_of : Block → Bool
 is_ccw_of b = is_set 1 b.options
 
@@ -47,5 +49,6 @@ is_ccw_of b = is_set 1 b.options
 abbrev pub direction_of : Block → Direction
 direction_of b = cond (is_ccw_of b) Ccw Cw
 
+-- bit 10 of word 1 has Reset Errors clear the trip
 abbrev pub clears_trip_of : Block → Bool
 clears_trip_of b = is_set 10 b.options

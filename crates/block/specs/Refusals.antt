@@ -3,6 +3,7 @@ use Rattle.std.specs.Prelude.{ℕ, Ok, Err, Result}
 use Rattle.block.specs.declared.refusal.Refusal.{Refusal}
 use Rattle.block.specs.declared.refusal.Refusal.TheVariants as refusal
 
+-- the number of a refusal
 abbrev pub number_of : Refusal → ℕ
 number_of refusal.WordCount = 1
 number_of refusal.ReservedBits = 2

@@ -12,7 +12,8 @@ answers_of (Ticks count) = count
 answers_of (Reading size) = 1 + size
 answers_of Drive = 3
 
--- how many words the first call of some bytes answers, where they begin with a call
+-- How many words the first call of some bytes answers, where they begin with a call: a tick as many as its count says, which is two bytes, lowest
+-- first; a reading its answer and its buffer; a look at the drive three; any other call one.
 abbrev pub first_answers : List ℕ → ℕ
 first_answers bytes =
     let kind = slice_index bytes 0 in

@@ -8,7 +8,7 @@ abbrev pub signed : Direction → ℕ → ℤ
 signed Cw n = pos n
 signed Ccw n = neg_ℤ (pos n)
 
--- the sign of the last number that was not 0
+-- the direction of a number's sign; of 0 the direction that was so before
 abbrev pub last_direction : Direction → ℤ → Direction
 last_direction d (pos zero) = d
 last_direction d (pos (suc n)) = Cw

@@ -8,6 +8,7 @@ use Rattle.drive.specs.declared.stepper.Stepper.{Stepper}
 abbrev pub phase_means : Stepper ℕ → DriveMeans
 phase_means = stepper_means
 
+-- its phase, 0 to 7
 abbrev pub phase_of : Stepper ℕ → ℕ
 phase_of = output_of
 
@@ -15,5 +16,6 @@ phase_of = output_of
 abbrev pub phase_after : Stepper ℕ → ℤ → ℕ
 phase_after = output_after 20 (turned 8)
 
+-- its coil byte: the entry at its phase
 abbrev pub coils_of : Stepper ℕ → ℕ
 coils_of d = slice_index coil_bytes (phase_of d)

@@ -9,6 +9,7 @@ use Rattle.drive.specs.declared.stepper.Stepper.{Stepper}
 abbrev pub pulse_means : Stepper Direction → DriveMeans
 pulse_means = stepper_means
 
+-- its direction line
 abbrev pub line_of : Stepper Direction → Direction
 line_of = output_of
 

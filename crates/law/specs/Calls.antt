@@ -2,6 +2,7 @@
 use Rattle.std.specs.Prelude.{Bool, false, List, ℤ, pos, is_ok, Result}
 use Rattle.block.specs.declared.refusal.Refusal.{Refusal}
 
+-- a call, with what it is given
 pub data Call : Type 0 where
   -- with the starting speed
   SetUp : ℤ → Call
@@ -13,6 +14,7 @@ pub data Call : Type 0 where
   -- with the words of the buffer before it
   Reading : List ℤ → Call
 
+-- what a call answers, by its kind
 pub data Answer : Type 0 where
   -- of a set-up, a block or an event
   Replied : Result (Unit {0}) Refusal → Answer

@@ -30,6 +30,7 @@ moment c r place complete p asked gone =
       };
     }
 
+-- accepted
 abbrev done : Answer
 done = Replied (Ok tt)
 
@@ -87,7 +88,7 @@ runs =
     ∷ moment (block 8192 1 0 0 3) done 0 false (Some (plan 1)) 1000 0
     ∷ []
 
--- the six ticks of the first row, and the first of the pause
+-- the six ticks of the first row
 abbrev row_gone : List Moment
 row_gone =
     moment Tick (Sent (pos 0)) 0 false (Some (plan 1)) 1000 100
@@ -98,6 +99,7 @@ row_gone =
     ∷ moment Tick (Sent (pos 1)) 1 false (Some (plan 1)) 1000 1000
     ∷ []
 
+-- the first tick of the pause
 abbrev waits : List Moment
 waits = moment Tick (Sent (pos 0)) 1 false (Some (plan 1)) 1000 1000 ∷ []
 
@@ -106,9 +108,11 @@ unfoldable pub account_of : Account → List Moment → Account
 account_of a [] = a
 account_of a (m ∷ ms) = account_of (account_after a m.call m.answer (view_of m.seen)) ms
 
+-- the account after some moments from power-up on, over a drive at 0 and a profile without a plan
 unfoldable pub told_of : List Moment → Account
 told_of ms = account_of (first_account (record { place = pos 0; tripped = false }) (record { plan = None; asked = 0; gone = 0; left = 0; lag = 0 })) ms
 
+-- what some moments lead to
 pub data Example : Type 0 where
   -- a move is under way, with so many ticks allowed and passed
   under_way : List Moment → (allowed passed : ℕ) → Example
@@ -121,26 +125,31 @@ pub data Example : Type 0 where
   -- Move_Complete is on, at the place where the move was sent
   arrives : List Moment → (place : ℕ) → Example
 
+-- a move is under way, with so many ticks allowed and passed
 abbrev timing_is : Option Timing → ℕ → ℕ → Bool
 timing_is None a p = false
 timing_is (Some t) a p = t.allowed == a && t.passed == p
 
+-- after a hold or a full stop so many ticks may send steps, and so many did
 abbrev rest_is : Option Rest → ℕ → ℕ → Bool
 rest_is None a n = false
 rest_is (Some r) a n = r.allowed == a && r.sent == n
 
+-- in a pause of which so many ticks have been waited
 abbrev waited_is : Journey → ℕ → Bool
 waited_is none n = false
 waited_is (on x l ls w) n = false
 waited_is (pausing u x l ls w) n = u == n
 waited_is (held x l) n = false
 
+-- on a leg that is held
 abbrev held_is : Journey → Bool
 held_is none = false
 held_is (on x l ls w) = false
 held_is (pausing u x l ls w) = false
 held_is (held x l) = true
 
+-- whether an example is so, computed by the law's own definitions
 unfoldable pub holds : Example → Bool
 holds (under_way ms a p) = timing_is (told_of ms).underway a p
 holds (at_rest ms a n) = rest_is (told_of ms).resting a n
@@ -148,6 +157,7 @@ holds (in_pause ms u) = waited_is (told_of ms).journey u
 holds (is_held ms) = held_is (told_of ms).journey
 holds (arrives ms x) = let a : Account = told_of ms in a.view.complete && (distance a.view.position (pos x) == 0 && distance a.target (pos x) == 0)
 
+-- the examples
 unfoldable pub table : List Example
 table =
     under_way sent_two 20 0

@@ -34,6 +34,7 @@ abbrev pub move_ticks : ℕ → ℕ → List Leg → ℕ
 move_ticks lag pause [] = 0
 move_ticks lag pause (l ∷ ls) = plan_ticks l.plan lag + later_ticks lag pause ls
 
+-- where the latest move is
 pub data Journey : Type 0 where
   -- nothing to travel: before the first move, after its end, after a full stop, a preset, or a hold in a pause
   none : Journey
@@ -49,7 +50,7 @@ abbrev pub set_out : ℤ → List Leg → ℕ → Journey
 set_out x [] pause = none
 set_out x (l ∷ ls) pause = on x l ls pause
 
--- a leg is over or goes on; after it comes the pause before the next
+-- on a leg that is over or goes on: after it comes the pause before the next, and after the last leg nothing
 abbrev pub on_leg : Bool → ℤ → Leg → List Leg → ℕ → Journey
 on_leg false x l ls w = on x l ls w
 on_leg true x l [] w = none
@@ -63,7 +64,7 @@ ticked over (on x l ls w) = on_leg over x l ls w
 ticked over (pausing u x l ls w) = cond (nat_lt u w) (pausing (suc u) x l ls w) (on_leg over x l ls w)
 ticked over (held x l) = held x l
 
--- a hold; in a pause nothing is in motion
+-- after a hold: a leg is held, and in a pause nothing is in motion, so the journey ends
 abbrev pub braked : Journey → Journey
 braked none = none
 braked (on x l ls w) = held x l

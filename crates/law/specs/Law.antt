@@ -49,7 +49,7 @@ pub record ReadingLaw (a : Account) (buffer : List ℤ) (r : Answer) (words : Li
   pub reads : r ≡ Read (reading_answer buffer) (read_words words buffer)
   pub keeps : v ≡ a.view
 
--- by the call
+-- what the law says of a tick and of a reading; of the other calls it says nothing here
 abbrev pub CallLaw : ℕ → Account → Call → Answer → List ℤ → View → Type 0
 CallLaw g a (SetUp n) r ws v = Unit {0}
 CallLaw g a (Block b) r ws v = Unit {0}
@@ -121,6 +121,7 @@ pub record Law (g : ℕ) (a : Account) (c : Call) (r : Answer) (ws : List ℤ) (
   pub clears : Clears (effect_of a c r) v
   pub in_time : InTime (account_after a c r v).underway
   pub arrives : Arrives a (account_after a c r v).journey v
+  -- only a hold and a full stop stop a move
   pub stands : Stands a (effect_of a c r)
   -- after a hold only so many ticks send steps, and after a full stop none, until the next accepted move
   pub rests : Settles (account_after a c r v).resting

@@ -13,6 +13,7 @@ pub record Seen : Type 0 where
   pub drive : DriveMeans
   pub profile : ProfileMeans
 
+-- a call, its answer, and what was to be seen after it
 pub record Moment : Type 0 where
   pub call : Call
   pub answer : Answer

@@ -3,18 +3,18 @@ use Rattle.std.specs.Prelude.{◌≡◌, ℕ, ◌+◌, ◌-◌, ◌<◌, ◌≤�
 use Rattle.std.proofs.Common.{⊎_elim, arith}
 use Rattle.std.proofs.lemmas.Bool.{cases_lt}
 use Rattle.profile.specs.Creeping.{creeping}
-use Rattle.profile.specs.Plans.{plan_of, way_of}
+use Rattle.profile.specs.Plans.{plan_of, millisteps_of}
 use Rattle.profile.specs.Profiles.{ProfileMeans, Sound, Ticked, start_of, up_div}
 use Rattle.profile.specs.declared.plan.Plan.{Plan}
 use Rattle.profile.specs.PlanLaws.{lawful_of, way_near, starts_some, start_top}
 use Rattle.profile.specs.UpDivs.{up_div_zero, up_div_less, up_div_pos}
 
 -- nothing was asked for before the first plan
-way_none : (o : Option Plan) → plan_of o ≡ None → way_of o ≡ 0
+way_none : (o : Option Plan) → plan_of o ≡ None → millisteps_of o ≡ 0
 way_none None e = refl
 way_none (Some p) e = let z : ◌≡◌ {A = ℕ} 0 1 = cc in absurd (omega arith)
 
-module _ (o : Option Plan) (asked gone : ℕ) (reached : gone ≤ asked) (within : asked ≤ way_of o) where
+module _ (o : Option Plan) (asked gone : ℕ) (reached : gone ≤ asked) (within : asked ≤ millisteps_of o) where
   abbrev start : ℕ
   start = start_of (plan_of o)
 

@@ -13,12 +13,15 @@ pub record PlanMeans : Type 0 where
   pub decel : ℕ
   pub rows : List Row
 
+-- what a plan means: its rows are the first `count` of those that it keeps
 abbrev pub plan_means : Plan → PlanMeans
 plan_means p = record { start = p.start; accel = p.rates.accel; decel = p.rates.decel; rows = take p.count p.rows }
 
+-- the steps of all rows
 abbrev pub plan_steps : PlanMeans → ℕ
 plan_steps m = steps_of m.rows
 
+-- the top: the greatest speed of a row
 abbrev pub plan_top : PlanMeans → ℕ
 plan_top m = top_of m.rows
 
@@ -31,7 +34,7 @@ pub record Lawful (m : PlanMeans) : Type 0 where
   pub each : are_rows m.start m.rows ≡ true
   pub near : plan_steps m ≤ 16777214
 
--- the first reason why numbers make no plan
+-- the first reason why numbers make no plan, if there is one
 abbrev pub plan_fault : PlanMeans → Option PlanFault
 plan_fault m =
     cond (nat_lt m.start 1) (Some fault.Start)
@@ -53,7 +56,7 @@ abbrev pub plan_of : Option Plan → Option PlanMeans
 plan_of None = None
 plan_of (Some p) = Some (plan_means p)
 
--- all its millisteps
-abbrev pub way_of : Option Plan → ℕ
-way_of None = 0
-way_of (Some p) = 1000 * plan_steps (plan_means p)
+-- all its millisteps, 0 before the first
+abbrev pub millisteps_of : Option Plan → ℕ
+millisteps_of None = 0
+millisteps_of (Some p) = 1000 * plan_steps (plan_means p)

@@ -1,6 +1,6 @@
 -- How far a plan has gone, and what the calls make of that.
 use Rattle.std.specs.Prelude.{ℕ, ◌+◌, ◌-◌, min, max, Some, None, Option}
-use Rattle.profile.specs.Plans.{way_of}
+use Rattle.profile.specs.Plans.{millisteps_of}
 use Rattle.profile.specs.declared.plan.Plan.{Plan}
 use Rattle.profile.specs.declared.progress.Progress.{Progress}
 
@@ -19,7 +19,7 @@ no_progress = record { plan = None; asked = 0; gone = 0 }
 
 -- a plan just begun: all its millisteps are asked for
 abbrev pub begun_progress : Plan → ProgressMeans
-begun_progress p = record { plan = Some p; asked = way_of (Some p); gone = 0 }
+begun_progress p = record { plan = Some p; asked = millisteps_of (Some p); gone = 0 }
 
 -- what is asked for and has not gone
 abbrev pub way_left : ProgressMeans → ℕ

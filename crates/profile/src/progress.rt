@@ -1,6 +1,6 @@
 // How far a plan has gone.
 ghost use Rattle.std.specs.Prelude.{◌≤◌};
-ghost use Rattle.profile.specs.Plans.{way_of};
+ghost use Rattle.profile.specs.Plans.{millisteps_of};
 
 use crate::plan::Plan;
 
@@ -13,5 +13,5 @@ pub struct Progress {
     asked: u64,
     gone: u64,
     pub ghost reached: { gone ≤ asked },
-    pub ghost within: { asked ≤ way_of plan },
+    pub ghost within: { asked ≤ millisteps_of plan },
 }

@@ -1,7 +1,7 @@
 -- Constant acceleration is a profile.
 use Rattle.std.specs.Prelude.{◌≡◌, ℕ, ◌+◌, ◌*◌, ◌<◌, ◌≤◌, Some, None, Option, refl}
 use Rattle.std.proofs.Common.{arith}
-use Rattle.profile.specs.Plans.{PlanMeans, Lawful, plan_means, plan_of, plan_steps, plan_top, way_of}
+use Rattle.profile.specs.Plans.{PlanMeans, Lawful, plan_means, plan_of, plan_steps, plan_top, millisteps_of}
 use Rattle.profile.specs.Profiles.{ProfileMeans, Sound, Begun, Ticked, Braked, fastest}
 use Rattle.profile.specs.declared.plan.Plan.{Plan}
 use Rattle.profile.specs.PlanLaws.{lawful, way_near}
@@ -13,7 +13,7 @@ use Rattle.ramp.specs.GreatestLaws.{greatest_one}
 use Rattle.ramp.specs.LeftLaws.{left_done, left_some, left_tick, left_short, left_braked, left_brake}
 use Rattle.ramp.specs.SpeedLaws.{speed_top}
 
-pub sound : (o : Option Plan) (asked gone last : ℕ) → gone ≤ asked → asked ≤ way_of o → Sound (ramping (plan_of o) asked gone last)
+pub sound : (o : Option Plan) (asked gone last : ℕ) → gone ≤ asked → asked ≤ millisteps_of o → Sound (ramping (plan_of o) asked gone last)
 sound None asked gone last h w =
     record {
       reached = h;
@@ -74,13 +74,13 @@ module _ (p : PlanMeans) (l : Lawful p) (asked gone last : ℕ) (w : asked ≤ 1
 
 -- the same of a ramp's plan, if it has one yet
 pub ticks_of :
-    (o : Option Plan) (asked gone last u : ℕ) → asked ≤ way_of o → last ≤ fastest (plan_of o) → gone < asked → Greatest (MayAdvance (plan_of o) asked gone last) u
+    (o : Option Plan) (asked gone last u : ℕ) → asked ≤ millisteps_of o → last ≤ fastest (plan_of o) → gone < asked → Greatest (MayAdvance (plan_of o) asked gone last) u
     → Ticked (ramping (plan_of o) asked gone last) u (ramping (plan_of o) asked (gone + u) u)
 ticks_of None asked gone last u w t h g = absurd (omega arith)
 ticks_of (Some q) asked gone last u w t h g = ticks (plan_means q) (lawful q) asked gone last w t u h g
 
 pub brakes_of :
-    (o : Option Plan) (asked gone last : ℕ) → asked ≤ way_of o → last ≤ fastest (plan_of o) → gone + braking_of (plan_of o) last ≤ asked
+    (o : Option Plan) (asked gone last : ℕ) → asked ≤ millisteps_of o → last ≤ fastest (plan_of o) → gone + braking_of (plan_of o) last ≤ asked
     → Braked (ramping (plan_of o) asked gone last) (ramping (plan_of o) (gone + braking_of (plan_of o) last) gone last)
 brakes_of None asked gone last w t h = grind (arith, braking_low 0 0 0)
 brakes_of (Some q) asked gone last w t h = brakes (plan_means q) (lawful q) asked gone last w t h

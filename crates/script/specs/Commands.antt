@@ -6,6 +6,7 @@ use Rattle.bed.specs.declared.fault.LineFault.TheVariants.{UnknownCommand}
 use Rattle.script.specs.declared.command.Command.{Command}
 use Rattle.script.specs.declared.command.Command.TheVariants.{Bed, At, Tripped, Setup, Block, Event, Tick, Reading}
 
+-- the command that a word names
 abbrev pub command_word : List ℕ → Result Command LineFault
 command_word w =
     cond (bytes_eq w (codes "bed")) (Ok Bed)

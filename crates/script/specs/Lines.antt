@@ -44,9 +44,11 @@ command_of w ws =
     (cond (bytes_eq w (codes "reading")) (making Reading (count_of 10 ws))
     (Err UnknownCommand))))))))
 
+-- what the words of a line say; a line without words says nothing
 abbrev pub line_of_words : List (List ℕ) → Result LineMeans LineFault
 line_of_words [] = Ok Blank
 line_of_words (w ∷ ws) = command_of w ws
 
+-- what a line says, comment and all
 abbrev pub line_of : List ℕ → Result LineMeans LineFault
 line_of text = line_of_words (words_of (uncommented text))

@@ -6,7 +6,6 @@ use Rattle.std.proofs.lemmas.Bool.{cases_eq, cases_lt, eq-eqb, ne_eqb, cond_both
 use Rattle.profile.specs.Plans.{PlanMeans}
 use Rattle.profile.specs.Profiles.{ProfileMeans, Sound, Begun, Ticked, Braked, fastest}
 use Rattle.smoothing.specs.Windows.{mean_of, pushed, from_other, ticks_to_equal, Kept}
-use Rattle.smoothing.specs.Standings.{standing_of}
 use Rattle.smoothing.specs.Smoothing.{left_over, smoothing}
 use Rattle.smoothing.specs.Pushes.{length_pushed, other_le, other_pushed, same_pushed}
 use Rattle.smoothing.specs.Keeps.{kept_pushed, mean_le, mean_alike, mean_unlike, mean_near, mean_replicate}
@@ -142,10 +141,6 @@ ticked_smooth m m' a ws ws' r s s' b k kept rise =
     let P : ProfileMeans → Type 0
     = λ x. Sound x → ws' ≡ pushed x.gone ws → Ticked (smoothing m ws) r (smoothing x ws') in
     subst P (sym b.after) (λ t e. rw e (ticked m a s t b.idle b.within ws r k (rise ∙ ap mean_of e))) s' kept
-
--- a brake below leaves it where it stands
-pub standing_braked : (m m' : ProfileMeans) → Braked m m' → standing_of m' ≡ standing_of m
-standing_braked m m' b = ap standing_of b.after
 
 -- a brake below, which leaves the values kept as they are
 pub braked_smooth :

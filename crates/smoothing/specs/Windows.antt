@@ -2,6 +2,7 @@
 -- their sum ÷ W, rounded down.
 use Rattle.std.specs.Prelude.{◌≡◌, ℕ, ◌+◌, ◌/◌, ◌≤◌, cond, List, [], ◌∷◌, ◌++◌, reverse, length, sum, take, drop, ◌==◌}
 
+-- their mean
 abbrev pub mean_of : List ℕ → ℕ
 mean_of ws = sum ws / length ws
 
@@ -28,12 +29,12 @@ ticks_to_equal (x ∷ xs) = from_other x xs
 abbrev pub newest_first : ℕ → List ℕ → List ℕ
 newest_first i ring = reverse (drop i ring ++ take i ring)
 
--- what every window keeps to: going back from v, no value is above the one after it, or below it by more than the pace t
+-- what every window keeps to: going back from v, no value is above the one after it, or below it by more than t
 abbrev pub Steady : ℕ → ℕ → List ℕ → Type 0
 Steady t v [] = Unit {0}
 Steady t v (x ∷ xs) = ((x ≤ v) × (v ≤ x + t)) × Steady t x xs
 
--- v is the newest, and each rose by at most the pace t
+-- v is the newest, and each rose by at most t
 abbrev pub Kept : ℕ → ℕ → List ℕ → Type 0
 Kept t v [] = ⊥
 Kept t v (x ∷ xs) = (x ≡ v) × Steady t x xs

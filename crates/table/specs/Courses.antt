@@ -8,14 +8,15 @@ use Rattle.table.specs.Segments.{way_of}
 use Rattle.table.specs.declared.limits.Limits.{Limits}
 use Rattle.table.specs.declared.segment.Segment.{Segment}
 
+-- whether a move from one place to another does so
 abbrev pub goes_to : ℤ → ℤ → Bool
 goes_to from to = not (distance from to == 0) && is_position to
 
--- where a move by some steps ends, if it does so
+-- where a move by d steps ends, if it goes at least one step and ends at a position
 abbrev pub leg_end : ℤ → ℤ → Option ℤ
 leg_end from d = cond (goes_to from (from +ℤ d)) (Some (from +ℤ d)) None
 
--- each row does, one after the other
+-- each of some rows goes at least one step and ends at a position, where each begins at the end of the one before
 unfoldable pub stays_on : ℤ → List Segment → Bool
 stays_on from [] = true
 stays_on from (s ∷ ss) = goes_to from (from +ℤ s.distance) && stays_on (from +ℤ s.distance) ss
@@ -25,7 +26,7 @@ abbrev pub is_clear : Limits → Direction → Bool
 is_clear l Cw = not l.cw
 is_clear l Ccw = not l.ccw
 
--- in the direction of each row
+-- the limit in the direction of each row is off
 abbrev pub are_clear : Limits → List Segment → Bool
 are_clear l ss = list_all (λ s. is_clear l (way_of s)) ss
 

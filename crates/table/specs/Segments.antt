@@ -10,6 +10,7 @@ use Rattle.table.specs.declared.segment.Segment.{Segment}
 abbrev pub is_segment : ℕ → Segment → Bool
 is_segment S s = not (unsigned_abs s.distance == 0) && (is_position s.distance && (nat_le S s.speed && nat_le s.speed 200000))
 
+-- each of some rows is one
 unfoldable pub are_segments : ℕ → List Segment → Bool
 are_segments S [] = true
 are_segments S (s ∷ ss) = is_segment S s && are_segments S ss
@@ -18,9 +19,10 @@ are_segments S (s ∷ ss) = is_segment S s && are_segments S ss
 abbrev pub is_enough : Bool → ℕ → Bool
 is_enough ready count = not ready || nat_le 2 count
 
--- its direction, and the row of a plan that travels it: its size, whatever its sign
+-- its direction, by the sign of its distance
 abbrev pub way_of : Segment → Direction
 way_of s = toward (pos 0) s.distance
 
+-- the row of a plan that travels it: its size, whatever its sign
 abbrev pub row_of : Segment → Row
 row_of s = record { steps = unsigned_abs s.distance; speed = s.speed }

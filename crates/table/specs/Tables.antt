@@ -30,14 +30,14 @@ has_room t = nat_lt (length t.rows) 16
 abbrev pub added : TableMeans → Segment → TableMeans
 added t s = record { start = t.start; rows = t.rows ++ s ∷ []; ready = t.ready }
 
--- a row that is added to a full table, or that is no segment for its starting speed, changes nothing
+-- whether a table takes a row: it has room, and the row is a segment for its starting speed
 abbrev pub takes : TableMeans → Segment → Bool
 takes t s = has_room t && is_segment t.start s
 
--- what it answers: whether it is full is asked first
+-- what the adding of a row answers: whether there is room is asked first
 abbrev pub taken : TableMeans → Segment → Result (Unit {0}) TableFault
 taken t s = cond (has_room t) (cond (is_segment t.start s) (Ok tt) (Err fault.Unfit)) (Err fault.Full)
 
--- a programming ends: fewer than two rows are no table
+-- a programming ends: fewer than two rows empty the table, and two or more make it ready
 abbrev pub closed : TableMeans → TableMeans
 closed t = cond (nat_lt (length t.rows) 2) (emptied t.start) (record { start = t.start; rows = t.rows; ready = true })
