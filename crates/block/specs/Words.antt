@@ -5,7 +5,7 @@ use Rattle.std.specs.Prelude.{ℕ, ◌^◌, Bool, not, ◌&&◌, ◌==◌, bit_a
 abbrev pub meets : ℕ → ℕ → Bool
 meets mask w = not (bit_and w mask == 0)
 
--- whether bit k is set
+-- whether bit k is set, which is whether (w ÷ 2 ^ k) mod 2 is 1
 abbrev pub is_set : ℕ → ℕ → Bool
 is_set k w = meets (2 ^ k) w
 
