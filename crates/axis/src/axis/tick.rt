@@ -16,6 +16,7 @@ use profile::traits::Profile;
 
 impl<D: Drive, P: Profile> Axis<D, P> {
     // The profile ticks, and the steps due go to the drive; none where the drive refuses them.
+    #[inline(always)]
     #[tactic(auto, using(crate::proofs::Sending::sent))]
     fn advance(&mut self, direction: Direction) -> Option<i32>
         ensures answer { result ≡ (if takes_all D.Drive.G (D.Drive.means self.old.drive) (due direction (P.Profile.means self.old.profile).gone (P.Profile.means self.new.profile)) then Some (due direction (P.Profile.means self.old.profile).gone (P.Profile.means self.new.profile)) else None) }
