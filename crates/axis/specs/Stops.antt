@@ -1,5 +1,5 @@
 -- How the axis comes to rest.
-use Rattle.std.specs.Prelude.{◌+◌, Bool, true, cond, length, ℤ, ◌==◌, nat_lt}
+use Rattle.std.specs.Prelude.{◌+◌, ◌-◌, Bool, true, cond, length, ℤ, ◌==◌, nat_lt}
 use Rattle.drive.specs.Positions.{distance}
 use Rattle.table.specs.Tables.{TableMeans, emptied}
 use Rattle.axis.specs.Memories.{MemoryMeans, with_state, with_flags, with_table, with_input, with_invalid, with_complete}
@@ -52,6 +52,18 @@ ended k (Dwell row) =
 -- running goes on until nothing is left
 abbrev pub arrived : MemoryMeans → Bool → Travel → MemoryMeans
 arrived k over travel = cond over (ended k travel.kind) (with_state k (Running travel))
+
+-- a tick of a pause: one tick less to wait
+abbrev pub less_waited : State → State
+less_waited Idle = Idle
+less_waited Programming = Programming
+less_waited (Running travel) = Running travel
+less_waited (Pausing next ticks) = Pausing next (ticks - 1)
+less_waited (Holding travel) = Holding travel
+less_waited (Held target) = Held target
+
+abbrev pub waited : MemoryMeans → MemoryMeans
+waited k = with_state k (less_waited k.state)
 
 -- what moves goes on, with the drive at a place
 abbrev pub gone_on : State → MemoryMeans → Bool → ℤ → MemoryMeans

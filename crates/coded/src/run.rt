@@ -63,6 +63,7 @@ fn look_at<D: Shown>(drive: &D, out: &mut [i32]) {
 }
 
 // Makes a call and writes its answers to the front of `out`. Where there is no room for them it is not made.
+#[inline(never)]
 fn make<D: Shown, P: Profile>(axis: &mut Axis<D, P>, call: Call, out: &mut [i32]) -> Option<usize>
     ensures room { IsNone result ↔ (length out.old < answers_of call.entry) }
     ensures written { IfSome result (λ count. count ≡ answers_of call.entry) }

@@ -16,6 +16,7 @@ use profile::traits::Profile;
 
 impl<D: Drive, P: Profile> Axis<D, P> {
     // The profile ticks, and the steps due go to the drive; none where the drive refuses them.
+    #[inline(always)]
     #[tactic(auto, using(crate::proofs::Sending::sent))]
     fn advance(&mut self, direction: Direction) -> Option<i32>
         ensures answer { result ≡ (if takes_all D.Drive.G (D.Drive.means self.old.drive) (due direction (P.Profile.means self.old.profile).gone (P.Profile.means self.new.profile)) then Some (due direction (P.Profile.means self.old.profile).gone (P.Profile.means self.new.profile)) else None) }
@@ -34,6 +35,7 @@ impl<D: Drive, P: Profile> Axis<D, P> {
     }
 
     // A tick of what moves; a drive that refuses makes a full stop.
+    #[inline(always)]
     fn move_on(&mut self, direction: Direction) -> i32
         ensures steps { result ≡ steps_sent D.Drive.G (meaning D.Drive P.Profile self.old) direction (P.Profile.means self.old.profile).gone (P.Profile.means self.new.profile) }
         ensures after { meaning D.Drive P.Profile self.new ≡ moved_on D.Drive.G self.old.memory.state (meaning D.Drive P.Profile self.old) direction (P.Profile.means self.old.profile).gone (P.Profile.means self.new.profile) }
@@ -75,11 +77,8 @@ impl<D: Drive, P: Profile> Axis<D, P> {
         match self.memory.state {
             State::Running(travel) | State::Holding(travel) => self.move_on(travel.direction),
             State::Pausing { next, ticks: 0 } => self.begin_row(next),
-            State::Pausing { next, ticks } => {
-                self.memory.state = State::Pausing {
-                    next,
-                    ticks: ticks - 1,
-                };
+            State::Pausing { .. } => {
+                self.memory.wait();
                 0
             }
             State::Idle | State::Programming | State::Held(_) => 0,

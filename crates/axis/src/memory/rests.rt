@@ -1,7 +1,7 @@
 // How the axis comes to rest.
 ghost use Rattle.std.specs.Prelude.{◌≡◌};
 ghost use Rattle.axis.specs.Memories.{memory_means};
-ghost use Rattle.axis.specs.Stops.{stopped, completed, rested, eased, ended, gone_on, halted_by_input};
+ghost use Rattle.axis.specs.Stops.{stopped, completed, rested, eased, ended, waited, gone_on, halted_by_input};
 
 use super::Memory;
 use crate::order::DwellRow;
@@ -72,6 +72,15 @@ impl Memory {
                 };
             }
             Kind::Single(_) | Kind::Blend | Kind::Dwell(_) => self.complete(),
+        }
+    }
+
+    // A tick of a pause counts.
+    pub(crate) fn wait(&mut self)
+        ensures { memory_means self.new ≡ waited (memory_means self.old) }
+    {
+        if let State::Pausing { ticks, .. } = &mut self.state {
+            *ticks = ticks.saturating_sub(1);
         }
     }
 

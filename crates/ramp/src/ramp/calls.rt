@@ -50,6 +50,7 @@ impl Profile for Ramp {
         self.place = Place::default();
     }
 
+    #[inline(always)]
     fn tick(&mut self) -> u32
         ensures ticked { Ticked (ramp_means self.old) result (ramp_means self.new) }
         ensures advanced { Advanced self.old result self.new }
