@@ -80,10 +80,10 @@ fn kinds(rt: HostRuntime) {
             DriveKind::Pulse,
             ProfileKind {
                 base: BaseProfile::Ramp,
-                smoothings: Smoothings::Twice(2, 4),
+                smoothings: Smoothings::Twice(4, 3),
             },
             None,
-            113,
+            83,
         ),
     ] {
         let told = on_bed(BedKind { drive, profile }, ThirdAdvance);

@@ -3,6 +3,15 @@ use Rattle.std.specs.Prelude.{ℕ, ◌+◌, ◌*◌, ◌<◌, ◌⊎◌, ◌==�
 use Rattle.coded.specs.declared.call.Call.{Call}
 use Rattle.coded.specs.declared.call.Call.TheVariants.{SetUp, Block, Event, Ticks, Reading, Drive}
 
+-- the number that a call begins with
+abbrev pub number_of : Call → ℕ
+number_of (SetUp speed) = 0
+number_of (Block bytes) = 1
+number_of (Event code) = 2
+number_of (Ticks count) = 3
+number_of (Reading size) = 4
+number_of Drive = 5
+
 -- how many words a call answers
 abbrev pub answers_of : Call → ℕ
 answers_of (SetUp speed) = 1
