@@ -13,21 +13,21 @@ use Rattle.block.specs.declared.refusal.Refusal.TheVariants as refusal
 use Rattle.table.specs.Courses.{goes_to, stays_on, is_clear, are_clear}
 use Rattle.axis.proofs.Orders.{passes, moves}
 use Rattle.axis.specs.Axes.{AxisMeans}
-use Rattle.axis.specs.Judging.{asked, then_ask, said, numbers_of, rates_fit, dwell_fits, pace_fits, rates_of, leg_of, run_of, on_its_course, go_judged, leg_asked, led_to, segment_fits, absolute_asked, relative_asked, segment_asked, dwell_judged, blend_judged, resume_judged, preset_judged, values_judged}
+use Rattle.axis.specs.Judging.{asked, then_ask, said, numbers_of, rates_fit, dwell_fits, pace_fits, rates_of, single_of, run_of, on_its_course, go_judged, single_asked, led_to, segment_fits, absolute_asked, relative_asked, segment_asked, dwell_judged, blend_judged, resume_judged, preset_judged, values_judged}
 use Rattle.axis.specs.Plans.{blend_end}
 use Rattle.axis.specs.declared.numbers.Numbers.{Numbers}
 use Rattle.axis.specs.declared.order.Order.{Order}
 use Rattle.axis.specs.declared.order.Order.TheVariants as order
-use Rattle.axis.specs.declared.order.Leg.{Leg}
+use Rattle.axis.specs.declared.order.SingleMove.{SingleMove}
 use Rattle.table.specs.declared.segment.Segment.{Segment}
 
 -- the number that two words say
 abbrev number_of : Pair → ℤ
 number_of p = joined p.first p.second
 
--- a leg to a target, with a block's speed and rates, and a block's row
-abbrev pub leg_to : Block → ℤ → Leg
-leg_to b to = record { target = to; speed = nat_abs (number_of b.speed); rates = rates_of b }
+-- a single move to a target, with a block's speed and rates, and a block's row
+abbrev pub single_to : Block → ℤ → SingleMove
+single_to b to = record { target = to; speed = nat_abs (number_of b.speed); rates = rates_of b }
 
 abbrev pub row_in : Block → Segment
 row_in b = record { distance = number_of b.place; speed = nat_abs (number_of b.speed) }
@@ -67,27 +67,27 @@ module _ (g : ℕ) (m : AxisMeans) where
       on true false h = absurd (none_so refusal.Limit o h)
       on false b h = absurd (none_so refusal.Course o h)
 
-  go_is : (n : Numbers) (o : Order) → go_judged m (leg_of n) ≡ Ok o → o ≡ order.Go (leg_of n)
+  go_is : (n : Numbers) (o : Order) → go_judged m (single_of n) ≡ Ok o → o ≡ order.Go (single_of n)
   unfolding go_judged
-  go_is n o e = course_is n.place (toward m.drive.place n.place) (order.Go (leg_of n)) o e
+  go_is n o e = course_is n.place (toward m.drive.place n.place) (order.Go (single_of n)) o e
 
-  leg_is : (n : Numbers) (o : Order) → leg_asked g m n ≡ Ok o → o ≡ order.Go (leg_of n)
+  leg_is : (n : Numbers) (o : Order) → single_asked g m n ≡ Ok o → o ≡ order.Go (single_of n)
   leg_is n o e = go_is n o (moves m (pace_fits g m n) _ o e).2
 
-  pub absolute_is : (b : Block) (o : Order) → values_judged g m b command.Absolute ≡ Ok o → o ≡ order.Go (leg_to b (number_of b.place))
+  pub absolute_is : (b : Block) (o : Order) → values_judged g m b command.Absolute ≡ Ok o → o ≡ order.Go (single_to b (number_of b.place))
   absolute_is b o e =
       let n : Numbers = record { block = b; place = number_of b.place; speed = number_of b.speed } in
       let q = moves m (pace_fits g m n) _ o (passes (is_position n.place) refusal.Range _ o (numbers_are b (absolute_asked g m) o e)).1 in
       go_is n o (passes (not m.memory.flags.invalid) refusal.PositionInvalid _ o q.2).1
 
-  pub relative_is : (b : Block) (o : Order) → values_judged g m b command.Relative ≡ Ok o → o ≡ order.Go (leg_to b (m.drive.place +ℤ number_of b.place))
+  pub relative_is : (b : Block) (o : Order) → values_judged g m b command.Relative ≡ Ok o → o ≡ order.Go (single_to b (m.drive.place +ℤ number_of b.place))
   relative_is b o e =
       let n : Numbers = record { block = b; place = number_of b.place; speed = number_of b.speed } in
       leg_is (led_to m n) o (passes (is_position n.place) refusal.Range _ o (numbers_are b (relative_asked g m) o e)).1
 
-  pub resume_is : (b : Block) (target : ℤ) (o : Order) → resume_judged g m b target ≡ Ok o → o ≡ order.Go (leg_to b target)
+  pub resume_is : (b : Block) (target : ℤ) (o : Order) → resume_judged g m b target ≡ Ok o → o ≡ order.Go (single_to b target)
   resume_is b target o e =
-      leg_is (record { block = b; place = target; speed = number_of b.speed }) o (said_is b.speed (λ v. leg_asked g m (record { block = b; place = target; speed = v })) o e)
+      leg_is (record { block = b; place = target; speed = number_of b.speed }) o (said_is b.speed (λ v. single_asked g m (record { block = b; place = target; speed = v })) o e)
 
   pub preset_is : (b : Block) (o : Order) → preset_judged b ≡ Ok o → (is_position (number_of b.place) ≡ true) × (o ≡ order.Preset (number_of b.place))
   preset_is b o e =

@@ -1,5 +1,6 @@
 pub mod Commands
 pub mod Orders
+pub mod Questions
 pub mod Readiness
 pub mod Readings
 pub mod Sending

@@ -15,7 +15,7 @@ use Rattle.block.specs.declared.refusal.Refusal.TheVariants as refusal
 use Rattle.table.specs.Courses.{goes_to, stays_on, is_clear, are_clear}
 use Rattle.table.specs.Tables.{has_room}
 use Rattle.axis.specs.Axes.{AxisMeans}
-use Rattle.axis.specs.Judging.{asked, then_ask, heard, numbers_of, may_move, move_asked, on_held, rests, programs, held_target, allowed, inhibited, rates_fit, dwell_fits, pace_fits, rates_of, leg_of, segment_of, run_of, on_its_course, go_judged, leg_asked, led_to, segment_fits, absolute_asked, relative_asked, segment_asked, dwell_judged, blend_judged, resume_judged, values_judged, command_judged, judged}
+use Rattle.axis.specs.Judging.{asked, then_ask, heard, numbers_of, may_move, move_asked, on_held, rests, programs, held_target, allowed, inhibited, rates_fit, dwell_fits, pace_fits, rates_of, single_of, segment_of, run_of, on_its_course, go_judged, single_asked, led_to, segment_fits, absolute_asked, relative_asked, segment_asked, dwell_judged, blend_judged, resume_judged, values_judged, command_judged, judged}
 use Rattle.axis.specs.Plans.{blend_end}
 use Rattle.axis.specs.declared.numbers.Numbers.{Numbers}
 use Rattle.axis.specs.declared.order.Order.{Order}
@@ -50,7 +50,7 @@ pub record Follows (g : ℕ) (m : AxisMeans) (Q : Order → Type 0) : Type 0 whe
   pub nothing : Q order.Nothing
   pub go :
       (n : Numbers) → pace_fits g m n ≡ true → not (inhibited m) ≡ true → goes_to m.drive.place n.place ≡ true
-      → Q (order.Go (leg_of n))
+      → Q (order.Go (single_of n))
   pub hold : Q order.Hold
   pub stop : Q order.Stop
   pub preset : (x : ℤ) → is_position x ≡ true → Q (order.Preset x)
@@ -79,11 +79,11 @@ module _ (g : ℕ) (m : AxisMeans) (Q : Order → Type 0) (f : Follows g m Q) wh
       on true false k h = absurd (none_so refusal.Limit o h)
       on false b k h = absurd (none_so refusal.Course o h)
 
-  go_follows : (n : Numbers) (o : Order) → pace_fits g m n ≡ true → not (inhibited m) ≡ true → go_judged m (leg_of n) ≡ Ok o → Q o
+  go_follows : (n : Numbers) (o : Order) → pace_fits g m n ≡ true → not (inhibited m) ≡ true → go_judged m (single_of n) ≡ Ok o → Q o
   unfolding go_judged
-  go_follows n o p i e = course_follows n.place (toward m.drive.place n.place) (order.Go (leg_of n)) o (f.go n p i) e
+  go_follows n o p i e = course_follows n.place (toward m.drive.place n.place) (order.Go (single_of n)) o (f.go n p i) e
 
-  leg_follows : (n : Numbers) (o : Order) → leg_asked g m n ≡ Ok o → Q o
+  leg_follows : (n : Numbers) (o : Order) → single_asked g m n ≡ Ok o → Q o
   leg_follows n o e = let q = moves m (pace_fits g m n) _ o e in go_follows n o q.0 q.1 q.2
 
   absolute_follows : (n : Numbers) (o : Order) → absolute_asked g m n ≡ Ok o → Q o

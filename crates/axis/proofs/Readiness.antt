@@ -21,8 +21,8 @@ use Rattle.table.specs.declared.table.Table.{Table}
 use Rattle.axis.proofs.Orders.{Follows}
 use Rattle.axis.specs.Axes.{AxisMeans}
 use Rattle.axis.specs.Carrying.{Ready}
-use Rattle.axis.specs.Judging.{programs, in_range, speed_fits, rate_fits, rates_fit, pace_fits, distance_fits, segment_fits, rates_of, leg_of, segment_of}
-use Rattle.axis.specs.Plans.{leg_plan, blend_end}
+use Rattle.axis.specs.Judging.{programs, in_range, speed_fits, rate_fits, rates_fit, pace_fits, distance_fits, segment_fits, rates_of, single_of, segment_of}
+use Rattle.axis.specs.Plans.{single_plan, blend_end}
 use Rattle.axis.specs.declared.numbers.Numbers.{Numbers}
 
 -- what the types of an axis say of its meaning, over a drive that goes at most g steps at once
@@ -72,7 +72,7 @@ module _ (g : ℕ) (m : AxisMeans) (s : Sane g m) where
   unfolding speed_fits
   speed v e = let p = within m.memory.table.start (1000 * g) v e in (p.0, omega (arith, p.1, s.reach))
 
-  leg_lawful : (numbers : Numbers) → pace_fits g m numbers ≡ true → goes_to m.drive.place numbers.place ≡ true → Lawful (leg_plan m (leg_of numbers))
+  leg_lawful : (numbers : Numbers) → pace_fits g m numbers ≡ true → goes_to m.drive.place numbers.place ≡ true → Lawful (single_plan m (single_of numbers))
   unfolding pace_fits are_rows steps_of
   leg_lawful numbers e h =
       let target = numbers.place in

@@ -8,7 +8,7 @@ use Rattle.drive.specs.declared.direction.Direction.TheVariants.{Cw, Ccw}
 use Rattle.block.specs.Pairs.{joined, thousands, over, decoded}
 use Rattle.axis.specs.Axes.{AxisMeans}
 use Rattle.axis.specs.Judging.{programs, is_held}
-use Rattle.axis.specs.Readings.{flag, bit, is_moving, moves, accelerates, decelerates, waits, status_of, inputs_of}
+use Rattle.axis.specs.Readings.{flag, bit, is_moving, moves, accelerates, decelerates, waits, status_of, inputs_of, status_bits, input_bits, BitsSay}
 
 weighs : (n : ℕ) (on : Bool) → cond on n 0 ≡ n * cond on 1 0
 weighs n true = omega arith
@@ -30,26 +30,6 @@ flags_word :
 flags_word b13 b12 b11 b10 b9 b8 b7 b6 b5 b3 b2 b1 b0 =
     omega (arith, weighs 8192 b13, weighs 4096 b12, weighs 2048 b11, weighs 1024 b10, weighs 512 b9, weighs 256 b8, weighs 128 b7, weighs 64 b6, weighs 32 b5, weighs 8 b3, weighs 4 b2, weighs 2 b1)
 
--- the flags of word 0 by their bits, from bit 0
-abbrev pub status_bits : AxisMeans → List Bool
-status_bits m =
-    moves Cw m.memory.state
-    ∷ moves Ccw m.memory.state
-    ∷ is_held m.memory.state
-    ∷ not (is_moving m.memory.state)
-    ∷ false
-    ∷ accelerates m.memory
-    ∷ decelerates m.memory
-    ∷ m.memory.flags.complete
-    ∷ programs m.memory.state
-    ∷ waits m.memory
-    ∷ m.memory.flags.invalid
-    ∷ m.memory.flags.input
-    ∷ m.memory.flags.command
-    ∷ m.memory.flags.configuration
-    ∷ true
-    ∷ []
-
 -- each bit of word 0 is its flag; bit 4 and those past bit 14 are 0
 pub status_read : (m : AxisMeans) (k : ℕ) → bit k (status_of m) ≡ get_or (status_bits m) k false
 status_read m k =
@@ -59,19 +39,6 @@ status_read m k =
 
 pub complete_read : (m : AxisMeans) → bit 7 (status_of m) ≡ m.memory.flags.complete
 complete_read m = status_read m 7
-
--- the flags of word 1 by their bits, from bit 0
-abbrev pub input_bits : AxisMeans → List Bool
-input_bits m =
-    m.memory.levels.limits.cw
-    ∷ m.memory.levels.limits.ccw
-    ∷ m.memory.levels.estop
-    ∷ false
-    ∷ false
-    ∷ false
-    ∷ false
-    ∷ m.drive.tripped
-    ∷ []
 
 inputs_word :
     (b7 b2 b1 b0 : Bool) → (flag 7 b7 + flag 2 b2 + flag 1 b1 + flag 0 b0) ≡ mask_l (b0 ∷ b1 ∷ b2 ∷ false ∷ false ∷ false ∷ false ∷ b7 ∷ [])
@@ -90,3 +57,7 @@ position_read p h = grind (arith, ints)
 -- and they are a pair, which says the position
 pub position_decoded : (p : ℤ) → is_position p ≡ true → decoded (record { first = thousands p; second = over p }) ≡ Some p
 position_decoded p h = grind (arith, ints)
+
+-- so it is for both words
+pub bits_say : (m : AxisMeans) → BitsSay m
+bits_say m = record { status = status_read m; inputs = inputs_read m }

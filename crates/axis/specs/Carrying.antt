@@ -11,10 +11,10 @@ use Rattle.table.specs.Tables.{TableMeans, emptied, added, takes}
 use Rattle.axis.specs.Axes.{AxisMeans, with_memory}
 use Rattle.axis.specs.Judging.{runs}
 use Rattle.axis.specs.Memories.{MemoryMeans, with_table, with_state, with_flags, with_pace, with_command, with_input, with_invalid, with_complete, no_pace}
-use Rattle.axis.specs.Plans.{leg_plan}
+use Rattle.axis.specs.Plans.{single_plan}
 use Rattle.axis.specs.Stops.{stopped, eased}
 use Rattle.axis.specs.declared.order.DwellRow.{DwellRow}
-use Rattle.axis.specs.declared.order.Leg.{Leg}
+use Rattle.axis.specs.declared.order.SingleMove.{SingleMove}
 use Rattle.axis.specs.declared.order.Order.{Order}
 use Rattle.axis.specs.declared.order.Order.TheVariants as order
 use Rattle.axis.specs.declared.state.Kind.TheVariants.{Single, Blend, Dwell}
@@ -31,8 +31,8 @@ abbrev pub began : AxisMeans → Travel → ProfileMeans → AxisMeans
 began m travel p = record { drive = m.drive; profile = p; memory = set_out m.memory travel }
 
 -- to a target, from where the drive stands
-abbrev pub go_travel : AxisMeans → Leg → Travel
-go_travel m leg = record { direction = toward m.drive.place leg.target; kind = Single leg.target }
+abbrev pub go_travel : AxisMeans → SingleMove → Travel
+go_travel m single = record { direction = toward m.drive.place single.target; kind = Single single.target }
 
 -- along a row of the table
 abbrev pub row_travel : TableMeans → DwellRow → Travel
@@ -70,7 +70,7 @@ programmed k = with_state (with_table k (emptied k.table.start)) Programming
 -- what each order makes of the axis
 abbrev pub carried : AxisMeans → Order → ProfileMeans → AxisMeans
 carried m order.Nothing p = m
-carried m (order.Go leg) p = began m (go_travel m leg) p
+carried m (order.Go single) p = began m (go_travel m single) p
 carried m order.Hold p = held m.memory.state m p
 carried m order.Stop p = with_memory m (stopped m.memory)
 carried m (order.Preset x) p = preset m x
@@ -83,7 +83,7 @@ carried m (order.Dwell run) p = began m (row_travel m.memory.table (record { run
 -- what becomes of the profile: a move begins exactly its plan, a hold brakes, and nothing else touches it
 abbrev pub Uses : AxisMeans → Order → ProfileMeans → Type 0
 Uses m order.Nothing p = p ≡ m.profile
-Uses m (order.Go leg) p = Begun m.profile (leg_plan m leg) p
+Uses m (order.Go single) p = Begun m.profile (single_plan m single) p
 Uses m order.Hold p = MatchBool (runs m.memory.state) (Braked m.profile p) (p ≡ m.profile)
 Uses m order.Stop p = p ≡ m.profile
 Uses m (order.Preset x) p = p ≡ m.profile
@@ -96,7 +96,7 @@ Uses m (order.Dwell run) p = Begun m.profile (row_plan m.memory.table run.rates 
 -- an order that calls the profile
 abbrev pub calls_profile : Order → Bool
 calls_profile order.Nothing = false
-calls_profile (order.Go leg) = true
+calls_profile (order.Go single) = true
 calls_profile order.Hold = true
 calls_profile order.Stop = false
 calls_profile (order.Preset x) = false
@@ -109,7 +109,7 @@ calls_profile (order.Dwell run) = true
 -- an order that calls the drive
 abbrev pub calls_drive : Order → Bool
 calls_drive order.Nothing = false
-calls_drive (order.Go leg) = false
+calls_drive (order.Go single) = false
 calls_drive order.Hold = false
 calls_drive order.Stop = false
 calls_drive (order.Preset x) = true
@@ -122,7 +122,7 @@ calls_drive (order.Dwell run) = false
 -- an order that can be carried out: its plan is a plan, its place a position, its row one that the table takes
 abbrev pub Ready : AxisMeans → Order → Type 0
 Ready m order.Nothing = Unit {0}
-Ready m (order.Go leg) = Lawful (leg_plan m leg)
+Ready m (order.Go single) = Lawful (single_plan m single)
 Ready m order.Hold = Unit {0}
 Ready m order.Stop = Unit {0}
 Ready m (order.Preset x) = is_position x ≡ true

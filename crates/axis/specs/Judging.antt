@@ -18,7 +18,7 @@ use Rattle.axis.specs.Axes.{AxisMeans}
 use Rattle.axis.specs.Plans.{blend_end}
 use Rattle.axis.specs.declared.numbers.Numbers.{Numbers}
 use Rattle.axis.specs.declared.order.DwellRun.{DwellRun}
-use Rattle.axis.specs.declared.order.Leg.{Leg}
+use Rattle.axis.specs.declared.order.SingleMove.{SingleMove}
 use Rattle.axis.specs.declared.order.Order.{Order}
 use Rattle.axis.specs.declared.order.Order.TheVariants as order
 use Rattle.profile.specs.declared.rates.Rates.{Rates}
@@ -130,8 +130,8 @@ abbrev pub rates_of : Block → Rates
 rates_of b = record { accel = unsigned_abs b.accel; decel = unsigned_abs b.decel }
 
 -- the single move that numbers in range ask for
-abbrev pub leg_of : Numbers → Leg
-leg_of n = record { target = n.place; speed = unsigned_abs n.speed; rates = rates_of n.block }
+abbrev pub single_of : Numbers → SingleMove
+single_of n = record { target = n.place; speed = unsigned_abs n.speed; rates = rates_of n.block }
 
 -- the row of the table that numbers in range ask for
 abbrev pub segment_of : Numbers → Segment
@@ -156,8 +156,8 @@ abbrev pub on_its_course : AxisMeans → ℤ → Direction → Order → Result 
 on_its_course m target way o = then_ask (on_course m target way) (λ done. Ok o)
 
 -- the questions from the seventh on, for a single move to a target
-unfoldable pub go_judged : AxisMeans → Leg → Result Order Refusal
-go_judged m leg = on_its_course m leg.target (toward m.drive.place leg.target) (order.Go leg)
+unfoldable pub go_judged : AxisMeans → SingleMove → Result Order Refusal
+go_judged m single = on_its_course m single.target (toward m.drive.place single.target) (order.Go single)
 
 -- the speed and the rates of a move are in range
 unfoldable pub pace_fits : ℕ → AxisMeans → Numbers → Bool
@@ -172,13 +172,13 @@ abbrev pub move_asked : AxisMeans → Bool → Result Order Refusal → Result O
 move_asked m fits next = asked fits refusal.Range (then_ask (may_move m) (λ done. next))
 
 -- a single move to a target, beyond how the target is found
-abbrev pub leg_asked : ℕ → AxisMeans → Numbers → Result Order Refusal
-leg_asked g m n = move_asked m (pace_fits g m n) (go_judged m (leg_of n))
+abbrev pub single_asked : ℕ → AxisMeans → Numbers → Result Order Refusal
+single_asked g m n = move_asked m (pace_fits g m n) (go_judged m (single_of n))
 
 -- for an absolute move the position of the axis has to be valid, which is asked before its course
 abbrev pub valid_asked : ℕ → AxisMeans → Numbers → Result Order Refusal
 valid_asked g m n =
-    move_asked m (pace_fits g m n) (asked (not m.memory.flags.invalid) refusal.PositionInvalid (go_judged m (leg_of n)))
+    move_asked m (pace_fits g m n) (asked (not m.memory.flags.invalid) refusal.PositionInvalid (go_judged m (single_of n)))
 
 -- its target has to be a position
 abbrev pub absolute_asked : ℕ → AxisMeans → Numbers → Result Order Refusal
@@ -190,7 +190,7 @@ led_to m n = record { block = n.block; place = m.drive.place +ℤ n.place; speed
 
 -- its offset has to be a position
 abbrev pub relative_asked : ℕ → AxisMeans → Numbers → Result Order Refusal
-relative_asked g m n = asked (is_position n.place) refusal.Range (leg_asked g m (led_to m n))
+relative_asked g m n = asked (is_position n.place) refusal.Range (single_asked g m (led_to m n))
 
 -- Absolute, from the fifth question on
 abbrev pub absolute_judged : ℕ → AxisMeans → Block → Result Order Refusal
@@ -202,7 +202,7 @@ relative_judged g m b = then_ask (numbers_of b) (relative_asked g m)
 
 -- Resume to the target of the held move, from the fifth question on
 abbrev pub resume_judged : ℕ → AxisMeans → Block → ℤ → Result Order Refusal
-resume_judged g m b target = said (decoded b.speed) (λ v. leg_asked g m (record { block = b; place = target; speed = v }))
+resume_judged g m b target = said (decoded b.speed) (λ v. single_asked g m (record { block = b; place = target; speed = v }))
 
 -- a blend, from the sixth question on
 abbrev pub blend_judged : AxisMeans → Block → Result Order Refusal

@@ -5,6 +5,7 @@ pub mod EventCalls
 pub mod Judging
 pub mod Memories
 pub mod Plans
+pub mod Questions
 pub mod Readings
 pub mod Setups
 pub mod Stops

@@ -7,16 +7,16 @@ use Rattle.profile.specs.Plans.{PlanMeans}
 use Rattle.profile.specs.Rows.{steps_of}
 use Rattle.table.specs.Segments.{row_of}
 use Rattle.axis.specs.Axes.{AxisMeans}
-use Rattle.axis.specs.declared.order.Leg.{Leg}
+use Rattle.axis.specs.declared.order.SingleMove.{SingleMove}
 
 -- a single move: one row of the steps between the position and the target
-abbrev pub leg_plan : AxisMeans → Leg → PlanMeans
-leg_plan m leg =
+abbrev pub single_plan : AxisMeans → SingleMove → PlanMeans
+single_plan m single =
     record {
       start = m.memory.table.start;
-      accel = leg.rates.accel;
-      decel = leg.rates.decel;
-      rows = record { steps = distance m.drive.place leg.target; speed = leg.speed } ∷ [];
+      accel = single.rates.accel;
+      decel = single.rates.decel;
+      rows = record { steps = distance m.drive.place single.target; speed = single.speed } ∷ [];
     }
 
 -- where a blend in a direction ends: all its sizes from the position

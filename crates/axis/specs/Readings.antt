@@ -1,5 +1,5 @@
 -- What a reading tells of the axis: ten words, of which the last six are 0.
-use Rattle.std.specs.Prelude.{ℕ, ◌+◌, ◌/◌, ◌%◌, ◌^◌, Bool, true, false, cond, not, ◌&&◌, List, [], ◌∷◌, ◌++◌, drop, length, ℤ, pos, Ok, Err, Result, ◌==◌, nat_lt}
+use Rattle.std.specs.Prelude.{◌≡◌, ℕ, ◌+◌, ◌/◌, ◌%◌, ◌^◌, Bool, true, false, cond, not, ◌&&◌, List, [], ◌∷◌, ◌++◌, drop, get_or, length, ℤ, pos, Ok, Err, Result, ◌==◌, nat_lt}
 use Rattle.drive.specs.declared.direction.Direction.{Direction}
 use Rattle.drive.specs.declared.direction.Direction.TheVariants.{Cw, Ccw}
 use Rattle.block.specs.Commands.{bit_of}
@@ -82,6 +82,44 @@ status_of m =
 -- word 1: tripped, and the levels of the E-stop, the CCW limit and the CW limit
 abbrev pub inputs_of : AxisMeans → ℕ
 inputs_of m = flag 7 m.drive.tripped + flag 2 m.memory.levels.estop + flag 1 m.memory.levels.limits.ccw + flag 0 m.memory.levels.limits.cw
+
+-- the flags of word 0 by their bits, from bit 0
+abbrev pub status_bits : AxisMeans → List Bool
+status_bits m =
+    moves Cw m.memory.state
+    ∷ moves Ccw m.memory.state
+    ∷ is_held m.memory.state
+    ∷ not (is_moving m.memory.state)
+    ∷ false
+    ∷ accelerates m.memory
+    ∷ decelerates m.memory
+    ∷ m.memory.flags.complete
+    ∷ programs m.memory.state
+    ∷ waits m.memory
+    ∷ m.memory.flags.invalid
+    ∷ m.memory.flags.input
+    ∷ m.memory.flags.command
+    ∷ m.memory.flags.configuration
+    ∷ true
+    ∷ []
+
+-- the flags of word 1 by their bits, from bit 0
+abbrev pub input_bits : AxisMeans → List Bool
+input_bits m =
+    m.memory.levels.limits.cw
+    ∷ m.memory.levels.limits.ccw
+    ∷ m.memory.levels.estop
+    ∷ false
+    ∷ false
+    ∷ false
+    ∷ false
+    ∷ m.drive.tripped
+    ∷ []
+
+-- What the two words say bit by bit: each bit is its flag, and those past the flags are 0.
+pub record BitsSay (m : AxisMeans) : Type 0 where
+  pub status : (k : ℕ) → bit k (status_of m) ≡ get_or (status_bits m) k false
+  pub inputs : (k : ℕ) → bit k (inputs_of m) ≡ get_or (input_bits m) k false
 
 -- the status, the inputs, the pair of the position, and six words that are 0
 abbrev pub status_words : AxisMeans → List ℤ

@@ -1,4 +1,4 @@
--- How the axis comes to rest.
+-- How the axis comes to rest. What this means for a whole move, that it ends exactly where it was sent and only so, is the law of runs.
 use Rattle.std.specs.Prelude.{◌+◌, ◌-◌, Bool, true, cond, length, ℤ, ◌==◌, nat_lt}
 use Rattle.drive.specs.Positions.{distance}
 use Rattle.table.specs.Tables.{TableMeans, emptied}

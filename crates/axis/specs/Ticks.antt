@@ -1,4 +1,5 @@
--- What a tick does. Gone, in millisteps, is the profile's before its tick, and p what the profile means after it.
+-- What a tick does, state by state. Gone, in millisteps, is the profile's before its tick, and p what the profile means after it. What this
+-- means for a whole move is the law of runs.
 use Rattle.std.specs.Prelude.{◌≡◌, ℕ, ◌-◌, ◌/◌, Bool, true, false, cond, not, ◌||◌, ℤ, pos, is_some, is_ok, MatchBool, ◌==◌, unsigned_abs}
 use Rattle.drive.specs.Directions.{signed}
 use Rattle.drive.specs.Drives.{DriveMeans, landing, landed}

@@ -5,7 +5,7 @@ use table::segment::Segment;
 
 // A move to a target at a speed.
 #[derive(Clone, Copy, PartialEq, Eq, Debug)]
-pub struct Leg {
+pub struct SingleMove {
     pub target: i32,
     pub speed: u32,
     pub rates: Rates,
@@ -30,7 +30,7 @@ pub enum Order {
     // No bit rises.
     Nothing,
     // Absolute, Relative or Resume.
-    Go(Leg),
+    Go(SingleMove),
     Hold,
     Stop,
     Preset(i32),

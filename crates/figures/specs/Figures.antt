@@ -3,7 +3,7 @@
 use Rattle.std.specs.Prelude.{ℕ, ◌/◌, Bool, false, ◌&&◌, ℤ, pos, Some, None, Ok, Option, ◌==◌, List, replicate}
 use Rattle.axis.specs.Axes.{powered_up}
 use Rattle.axis.specs.Judging.{said}
-use Rattle.axis.specs.Plans.{leg_plan}
+use Rattle.axis.specs.Plans.{single_plan}
 use Rattle.block.specs.Pairs.{decoded, encoded}
 use Rattle.block.specs.Refusals.{answer_of}
 use Rattle.block.specs.declared.pair.Pair.{Pair}
@@ -33,7 +33,7 @@ unplanned = record { plan = None; asked = 0; gone = 0; left = 0; lag = 0 }
 -- the plan of a Resume to the end of a plan that set out from 0 and was held once so much had gone
 unfoldable pub resumed : PlanMeans → ℕ → PlanMeans
 resumed p gone =
-    leg_plan (powered_up (record { place = pos (gone / 1000); tripped = false }) unplanned)
+    single_plan (powered_up (record { place = pos (gone / 1000); tripped = false }) unplanned)
     (record { target = pos (plan_steps p); speed = 300; rates = record { accel = p.accel; decel = p.decel } })
 
 pub data Figure : Type 0 where

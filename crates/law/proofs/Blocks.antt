@@ -26,7 +26,7 @@ use Rattle.axis.specs.Blocks.{closes, is_limit, marked, answered, finished, Uses
 use Rattle.axis.specs.Carrying.{began, go_travel, row_travel, held, preset, reset, programmed, carried, Uses}
 use Rattle.axis.specs.Judging.{asked, rests, runs, programs, held_target, on_held, resume_judged, rates_of, run_of, allowed, values_judged, command_judged, judged, dwell_judged, blend_judged}
 use Rattle.axis.specs.Memories.{MemoryMeans, with_state, with_table, with_kept, with_flags, with_command, with_input}
-use Rattle.axis.specs.Plans.{leg_plan}
+use Rattle.axis.specs.Plans.{single_plan}
 use Rattle.axis.specs.Stops.{stopped, completed, rested, eased}
 use Rattle.axis.specs.declared.order.Order.{Order}
 use Rattle.axis.specs.declared.order.Order.TheVariants as order
@@ -169,7 +169,7 @@ module _ (g : ℕ) (k : AxisMeans) (t : Trace) (w : ℕ) (words : List ℤ) (b :
     rows_are = ap (rows_after t.rows) (ap (ordered_in w) is ∙ cm)
 
     -- a single move
-    goes : IsResting t k.drive.place k.profile → (to : ℤ) → command_effect a co b ≡ single a b to → rows_by t.rows co b ≡ t.rows → Begun k.profile (leg_plan k (leg_to b to)) p → G (Ok tt) (began k (go_travel k (leg_to b to)) p)
+    goes : IsResting t k.drive.place k.profile → (to : ℤ) → command_effect a co b ≡ single a b to → rows_by t.rows co b ≡ t.rows → Begun k.profile (single_plan k (leg_to b to)) p → G (Ok tt) (began k (go_travel k (leg_to b to)) p)
     goes r to ef ro begun =
         let plan : PlanMeans = plan_in k.memory.table.start b (record { steps = distance k.drive.place to; speed = speed_in b } ∷ []) in
         let leg : Leg = record { way = toward k.drive.place to; plan = plan } in

@@ -27,9 +27,9 @@ use Rattle.axis.specs.Blocks.{closes, kept_by, finished, UsesBy, kept_axis, orde
 use Rattle.axis.specs.Carrying.{began, go_travel, held, carried, Uses, Ready}
 use Rattle.unrefused.specs.Fits.{InPause, Underway, Fit}
 use Rattle.axis.specs.Judging.{programs, runs, inhibited, speed_fits, rates_fit, pace_fits, distance_fits}
-use Rattle.axis.specs.Plans.{leg_plan, blend_end}
+use Rattle.axis.specs.Plans.{single_plan, blend_end}
 use Rattle.axis.specs.declared.order.DwellRow.{DwellRow}
-use Rattle.axis.specs.declared.order.Leg.{Leg}
+use Rattle.axis.specs.declared.order.SingleMove.{SingleMove}
 use Rattle.axis.specs.declared.order.Order.{Order}
 use Rattle.axis.specs.declared.order.Order.TheVariants as order
 use Rattle.axis.specs.declared.state.State.{State}
@@ -38,7 +38,7 @@ use Rattle.axis.specs.declared.state.State.TheVariants.{Idle, Programming, Runni
 -- what the questions of a block say of its order, beyond that it can be carried out
 abbrev Asked : ℕ → AxisMeans → Order → Type 0
 Asked g m order.Nothing = Unit {0}
-Asked g m (order.Go leg) = (m.drive.tripped ≡ false) × (leg.speed ≤ 1000 * g) × (is_position leg.target ≡ true)
+Asked g m (order.Go single) = (m.drive.tripped ≡ false) × (single.speed ≤ 1000 * g) × (is_position single.target ≡ true)
 Asked g m order.Hold = Unit {0}
 Asked g m order.Stop = Unit {0}
 Asked g m (order.Preset x) = Unit {0}
@@ -92,25 +92,25 @@ resets g (Pausing next ticks) d p t u = record { untripped = refl; within = u.wi
 resets g (Holding travel) d p t u = record { untripped = refl; slow = u.slow; ends = u.ends }
 resets g (Held target) d p t u = tt
 
-one_leg_steps : (r : Row) → steps_of (r ∷ []) ≡ r.steps
+one_row_steps : (r : Row) → steps_of (r ∷ []) ≡ r.steps
 unfolding steps_of
-one_leg_steps r = omega arith
+one_row_steps r = omega arith
 
-one_leg_top : (r : Row) → top_of (r ∷ []) ≡ r.speed
+one_row_top : (r : Row) → top_of (r ∷ []) ≡ r.speed
 unfolding top_of
-one_leg_top r = omega arith
+one_row_top r = omega arith
 
 module _ (g : ℕ) (m : AxisMeans) (f : Fit g m) (here : is_position m.drive.place ≡ true) where
-  go_fits : (leg : Leg) (p : ProfileMeans) → Asked g m (order.Go leg) → Begun m.profile (leg_plan m leg) p → Fit g (began m (go_travel m leg) p)
-  go_fits leg p a b =
-      let n = distance m.drive.place leg.target in
-      let r : Row = record { steps = n; speed = leg.speed } in
-      let way = toward m.drive.place leg.target in
-      let e : m.drive.place +ℤ signed way (plan_steps (leg_plan m leg)) ≡ leg.target =
-      ap (λ k. m.drive.place +ℤ signed way k) (one_leg_steps r) ∙ toward_reaches m.drive.place leg.target in
+  go_fits : (single : SingleMove) (p : ProfileMeans) → Asked g m (order.Go single) → Begun m.profile (single_plan m single) p → Fit g (began m (go_travel m single) p)
+  go_fits single p a b =
+      let n = distance m.drive.place single.target in
+      let r : Row = record { steps = n; speed = single.speed } in
+      let way = toward m.drive.place single.target in
+      let e : m.drive.place +ℤ signed way (plan_steps (single_plan m single)) ≡ single.target =
+      ap (λ k. m.drive.place +ℤ signed way k) (one_row_steps r) ∙ toward_reaches m.drive.place single.target in
       record {
         table = f.table;
-        underway = (begins g way m.drive (leg_plan m leg) m.profile p b a.0 (omega (arith, one_leg_top r, a.1)) (ap is_position e ∙ a.2), tt);
+        underway = (begins g way m.drive (single_plan m single) m.profile p b a.0 (omega (arith, one_row_top r, a.1)) (ap is_position e ∙ a.2), tt);
       }
 
   held_fits : (s : State) (p : ProfileMeans) → Underway g s m.drive m.profile m.memory.table → MatchBool (runs s) (Braked m.profile p) (p ≡ m.profile) → Fit g (held s m p)
@@ -124,7 +124,7 @@ module _ (g : ℕ) (m : AxisMeans) (f : Fit g m) (here : is_position m.drive.pla
 
   carried_fits : (o : Order) (p : ProfileMeans) → Ready m o → Asked g m o → Uses m o p → Fit g (carried m o p)
   carried_fits order.Nothing p r a u = f
-  carried_fits (order.Go leg) p r a u = go_fits leg p a u
+  carried_fits (order.Go single) p r a u = go_fits single p a u
   carried_fits order.Hold p r a u = held_fits m.memory.state p f.underway u
   carried_fits order.Stop p r a u = stop_fits g m.drive m.profile m.memory f.table
   carried_fits (order.Preset x) p r a u = record { table = f.table; underway = tt }

@@ -6,10 +6,10 @@ ghost use Rattle.profile.specs.Profiles.{Begun, Braked};
 ghost use Rattle.axis.specs.Axes.{meaning};
 ghost use Rattle.axis.specs.Carrying.{began, go_travel, held, preset as preset_of, reset as reset_of, carried, Uses, calls_profile, calls_drive, Ready};
 ghost use Rattle.axis.specs.Judging.{runs};
-ghost use Rattle.axis.specs.Plans.{leg_plan};
+ghost use Rattle.axis.specs.Plans.{single_plan};
 
 use crate::axis::Axis;
-use crate::order::{DwellRow, Leg, Order};
+use crate::order::{DwellRow, Order, SingleMove};
 use crate::state::{Kind, State, Travel};
 use drive::direction::Direction;
 use drive::position::distance;
@@ -30,24 +30,24 @@ impl<D: Drive, P: Profile> Axis<D, P> {
     }
 
     // The plan of a single move.
-    fn leg_plan(&self, leg: Leg) -> Plan
-        requires { Lawful (leg_plan (meaning D.Drive P.Profile self.now) leg) }
-        ensures { plan_means result ≡ leg_plan (meaning D.Drive P.Profile self.now) leg }
+    fn single_plan(&self, single: SingleMove) -> Plan
+        requires { Lawful (single_plan (meaning D.Drive P.Profile self.now) single) }
+        ensures { plan_means result ≡ single_plan (meaning D.Drive P.Profile self.now) single }
     {
         let row = Row {
-            steps: distance(self.drive.place(), leg.target),
-            speed: leg.speed,
+            steps: distance(self.drive.place(), single.target),
+            speed: single.speed,
         };
-        Plan::new(self.memory.table.start(), leg.rates, &[row]).unwrap()
+        Plan::new(self.memory.table.start(), single.rates, &[row]).unwrap()
     }
 
     // To a target, from where the drive stands.
-    fn go_travel(&self, leg: Leg) -> Travel
-        ensures { result ≡ go_travel (meaning D.Drive P.Profile self.now) leg }
+    fn go_travel(&self, single: SingleMove) -> Travel
+        ensures { result ≡ go_travel (meaning D.Drive P.Profile self.now) single }
     {
         Travel {
-            direction: Direction::toward(self.drive.place(), leg.target),
-            kind: Kind::Single(leg.target),
+            direction: Direction::toward(self.drive.place(), single.target),
+            kind: Kind::Single(single.target),
         }
     }
 
@@ -101,9 +101,9 @@ impl<D: Drive, P: Profile> Axis<D, P> {
     {
         match order {
             Order::Nothing => {}
-            Order::Go(leg) => {
-                let plan = self.leg_plan(leg);
-                let travel = self.go_travel(leg);
+            Order::Go(single) => {
+                let plan = self.single_plan(single);
+                let travel = self.go_travel(single);
                 self.begin(plan, travel);
             }
             Order::Hold => self.hold(),

@@ -1,11 +1,11 @@
 // A block is judged first, which changes nothing: what it orders, or why it is refused.
 ghost use Rattle.std.specs.Prelude.{◌≡◌, ◌≤◌, ◌&&◌, Ok, ◌+ℤ◌, unsigned_abs};
 ghost use Rattle.axis.specs.Axes.{meaning};
-ghost use Rattle.axis.specs.Judging.{asked, allowed, inhibited as inhibited_of, speed_fits, rate_fits, rates_fit, rates_of, leg_of, dwell_fits, run_of, pace_fits, distance_fits, segment_fits, segment_of, go_judged, on_course, may_move, valid_asked, absolute_asked, relative_asked, segment_asked, leg_asked, resume_judged, blend_judged, dwell_judged, preset_judged, values_judged, judged};
+ghost use Rattle.axis.specs.Judging.{asked, allowed, inhibited as inhibited_of, speed_fits, rate_fits, rates_fit, rates_of, single_of, dwell_fits, run_of, pace_fits, distance_fits, segment_fits, segment_of, go_judged, on_course, may_move, valid_asked, absolute_asked, relative_asked, segment_asked, single_asked, resume_judged, blend_judged, dwell_judged, preset_judged, values_judged, judged};
 
 use crate::axis::Axis;
 use crate::numbers::{Numbers, number};
-use crate::order::{DwellRun, Leg, Order};
+use crate::order::{DwellRun, Order, SingleMove};
 use crate::state::State;
 use block::command::{Command, commanded};
 use block::frame::Block;
@@ -124,10 +124,10 @@ impl<D: Drive, P: Profile> Axis<D, P> {
 
     // A single move to the place of the numbers, where its speed and its rates are in range.
     #[tactic(auto, unfolding(crate::specs::Judging::pace_fits))]
-    fn leg_of(&self, numbers: Numbers) -> Result<Leg, Refusal>
-        ensures { result ≡ asked (pace_fits D.Drive.G (meaning D.Drive P.Profile self.now) numbers) Refusal.Range (Ok (leg_of numbers)) }
+    fn single_of(&self, numbers: Numbers) -> Result<SingleMove, Refusal>
+        ensures { result ≡ asked (pace_fits D.Drive.G (meaning D.Drive P.Profile self.now) numbers) Refusal.Range (Ok (single_of numbers)) }
     {
-        Ok(Leg {
+        Ok(SingleMove {
             target: numbers.place,
             speed: self.speed(numbers.speed)?,
             rates: rates_of(numbers.block)?,
@@ -159,12 +159,12 @@ impl<D: Drive, P: Profile> Axis<D, P> {
     }
 
     #[tactic(auto, unfolding(crate::specs::Judging::go_judged))]
-    fn judge_go(&self, leg: Leg) -> Result<Order, Refusal>
-        ensures { result ≡ go_judged (meaning D.Drive P.Profile self.now) leg }
+    fn judge_go(&self, single: SingleMove) -> Result<Order, Refusal>
+        ensures { result ≡ go_judged (meaning D.Drive P.Profile self.now) single }
     {
-        let direction = Direction::toward(self.drive.place(), leg.target);
-        self.ask_course(leg.target, direction)?;
-        Ok(Order::Go(leg))
+        let direction = Direction::toward(self.drive.place(), single.target);
+        self.ask_course(single.target, direction)?;
+        Ok(Order::Go(single))
     }
 
     fn judge_absolute(&self, numbers: Numbers) -> Result<Order, Refusal>
@@ -180,12 +180,12 @@ impl<D: Drive, P: Profile> Axis<D, P> {
     fn judge_valid(&self, numbers: Numbers) -> Result<Order, Refusal>
         ensures { result ≡ valid_asked D.Drive.G (meaning D.Drive P.Profile self.now) numbers }
     {
-        let leg = self.leg_of(numbers)?;
+        let single = self.single_of(numbers)?;
         self.ask_move()?;
         if self.memory.flags.invalid {
             return Err(Refusal::PositionInvalid);
         }
-        self.judge_go(leg)
+        self.judge_go(single)
     }
 
     // Where an offset leads: that of a move, or all the steps of a table.
@@ -202,7 +202,7 @@ impl<D: Drive, P: Profile> Axis<D, P> {
         if !is_position(numbers.place) {
             return Err(Refusal::Range);
         }
-        self.judge_leg(Numbers {
+        self.judge_single(Numbers {
             place: self.offset_end(numbers.place),
             ..numbers
         })
@@ -212,7 +212,7 @@ impl<D: Drive, P: Profile> Axis<D, P> {
     fn judge_resume(&self, block: Block, target: i32) -> Result<Order, Refusal>
         ensures { result ≡ resume_judged D.Drive.G (meaning D.Drive P.Profile self.now) block target }
     {
-        self.judge_leg(Numbers {
+        self.judge_single(Numbers {
             block,
             place: target,
             speed: number(block.speed)?,
@@ -220,12 +220,12 @@ impl<D: Drive, P: Profile> Axis<D, P> {
     }
 
     // A move to a target that an offset leads to, or that is held.
-    fn judge_leg(&self, numbers: Numbers) -> Result<Order, Refusal>
-        ensures { result ≡ leg_asked D.Drive.G (meaning D.Drive P.Profile self.now) numbers }
+    fn judge_single(&self, numbers: Numbers) -> Result<Order, Refusal>
+        ensures { result ≡ single_asked D.Drive.G (meaning D.Drive P.Profile self.now) numbers }
     {
-        let leg = self.leg_of(numbers)?;
+        let single = self.single_of(numbers)?;
         self.ask_move()?;
-        self.judge_go(leg)
+        self.judge_go(single)
     }
 
     fn judge_blend(&self, block: Block) -> Result<Order, Refusal>

@@ -1,7 +1,7 @@
 // The reading call.
 ghost use Rattle.std.specs.Prelude.{◌≡◌, ◌≤◌, cond};
 ghost use Rattle.axis.specs.Axes.{meaning};
-ghost use Rattle.axis.specs.Readings.{status_of, inputs_of, status_words, reading_answer, read_into};
+ghost use Rattle.axis.specs.Readings.{status_of, inputs_of, status_words, BitsSay, reading_answer, read_into};
 
 use crate::axis::Axis;
 use block::pair::Pair;
@@ -55,8 +55,10 @@ impl<D: Drive, P: Profile> Axis<D, P> {
     }
 
     // The words of a reading: both of these, the pair of the position, and six that are 0.
+    #[tactic(auto, using(crate::proofs::Readings::bits_say))]
     pub fn status_words(&self) -> [i16; 10]
-        ensures { result ≡ status_words (meaning D.Drive P.Profile self.now) }
+        ensures words { result ≡ status_words (meaning D.Drive P.Profile self.now) }
+        ensures bits { BitsSay (meaning D.Drive P.Profile self.now) }
     {
         let position = Pair::encode(self.drive.place()).unwrap();
         [
