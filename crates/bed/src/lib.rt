@@ -3,6 +3,4 @@
 
 pub mod fault;
 pub mod kind;
-#[cfg(test)]
-mod tests;
 pub mod word;

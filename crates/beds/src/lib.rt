@@ -3,5 +3,3 @@
 
 pub mod choice;
 pub mod motor;
-#[cfg(test)]
-mod tests;

@@ -3,5 +3,3 @@
 
 pub mod flat;
 pub mod run;
-#[cfg(test)]
-mod tests;

@@ -5,5 +5,3 @@ pub mod call;
 pub mod numbers;
 pub mod run;
 mod shown;
-#[cfg(test)]
-mod tests;

@@ -9,7 +9,5 @@ pub mod position;
 pub mod pulse;
 pub mod send;
 pub mod stepper;
-#[cfg(test)]
-mod tests;
 pub mod token;
 pub mod traits;

@@ -1,6 +1,4 @@
 // The worked figures of the bed: one proof about the rules, and the same figures run on the code.
 #![tactic(auto)]
 
-#[cfg(test)]
-mod tests;
 pub mod worked;

@@ -9,6 +9,4 @@ pub mod plan;
 pub mod progress;
 pub mod rates;
 pub mod row;
-#[cfg(test)]
-mod tests;
 pub mod traits;

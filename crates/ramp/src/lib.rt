@@ -5,5 +5,3 @@ mod advance;
 pub mod braking;
 mod place;
 pub mod ramp;
-#[cfg(test)]
-mod tests;

@@ -5,5 +5,3 @@ pub mod command;
 pub mod fault;
 pub mod line;
 pub mod read;
-#[cfg(test)]
-mod tests;

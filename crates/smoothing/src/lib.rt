@@ -4,6 +4,4 @@
 mod ring;
 pub mod smoothed;
 mod standing;
-#[cfg(test)]
-mod tests;
 mod window;

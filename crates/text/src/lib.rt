@@ -5,6 +5,4 @@
 
 pub mod lines;
 pub mod number;
-#[cfg(test)]
-mod tests;
 pub mod text;

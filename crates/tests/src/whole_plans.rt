@@ -1,6 +1,6 @@
 // Plans of the creeping profile, run to their end.
-use crate::flat::{plan_of, run_flat};
-use crate::run::run_plan;
+use bench::flat::{plan_of, run_flat};
+use bench::run::run_plan;
 use profile::creep::Creep;
 use profile::plan::Plan;
 use profile::rates::Rates;

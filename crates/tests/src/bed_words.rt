@@ -1,6 +1,6 @@
-use crate::fault::LineFault;
-use crate::kind::{BaseProfile, DriveKind, ProfileKind, Smoothings, bed_kind};
-use crate::word::{FromWord, only};
+use bed::fault::LineFault;
+use bed::kind::{BaseProfile, DriveKind, ProfileKind, Smoothings, bed_kind};
+use bed::word::{FromWord, only};
 use text::text::Words;
 
 #[test]

@@ -1,13 +1,13 @@
 // Plans at each bound, and creep on examples.
-use crate::creep::Creep;
-use crate::extent::{Extent, measure};
-use crate::fault::PlanFault;
-use crate::list::RowList;
-use crate::plan::Plan;
-use crate::progress::Progress;
-use crate::rates::Rates;
-use crate::row::Row;
-use crate::traits::Profile;
+use profile::creep::Creep;
+use profile::extent::{Extent, measure};
+use profile::fault::PlanFault;
+use profile::list::RowList;
+use profile::plan::Plan;
+use profile::progress::Progress;
+use profile::rates::Rates;
+use profile::row::Row;
+use profile::traits::Profile;
 use std::test::Fail;
 
 const ONE: Row = Row {

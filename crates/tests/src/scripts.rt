@@ -1,8 +1,8 @@
-use crate::fault::ReadFault;
-use crate::line::Line;
-use crate::read::read_line;
 use bed::fault::LineFault;
 use bed::kind::{BaseProfile, BedKind, DriveKind, ProfileKind, Smoothings};
+use script::fault::ReadFault;
+use script::line::Line;
+use script::read::read_line;
 use std::alloc::Global;
 use std::test::Fail;
 

@@ -1,11 +1,11 @@
 // Constant acceleration on examples.
-use crate::braking::braking_distance;
-use crate::ramp::Ramp;
 use profile::fault::PlanFault;
 use profile::plan::Plan;
 use profile::rates::Rates;
 use profile::row::Row;
 use profile::traits::Profile;
+use ramp::braking::braking_distance;
+use ramp::ramp::Ramp;
 use std::process::Abort;
 use std::test::Fail;
 

@@ -1,6 +1,6 @@
-use crate::lines::Lines;
-use crate::number::{natural, number, word};
-use crate::text::{Words, uncommented};
+use text::lines::Lines;
+use text::number::{natural, number, word};
+use text::text::{Words, uncommented};
 
 #[test]
 fn lines_of_a_text(rt: HostRuntime) {

@@ -1,5 +1,5 @@
-use crate::numbers::bed_of;
-use crate::run::{Unmade, run_calls};
+use coded::numbers::bed_of;
+use coded::run::{Unmade, run_calls};
 use std::test::Fail;
 
 // A set-up of 100, a Preset to 12,345, five steps clockwise at 300, 19 ticks, a reading, and a look at the drive.

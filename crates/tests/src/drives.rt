@@ -3,13 +3,13 @@ ghost use Rattle.std.specs.Prelude.{◌≡◌};
 ghost use Rattle.drive.specs.PhaseDrives.{phase_of, phase_after};
 ghost use Rattle.drive.specs.PulseDrives.{line_of, line_after};
 
-use crate::direction::Direction;
-use crate::fault::DriveFault;
-use crate::phase::PhaseDrive;
-use crate::position::{FARTHEST, distance, is_position};
-use crate::pulse::PulseDrive;
-use crate::token::StepToken;
-use crate::traits::Drive;
+use drive::direction::Direction;
+use drive::fault::DriveFault;
+use drive::phase::PhaseDrive;
+use drive::position::{FARTHEST, distance, is_position};
+use drive::pulse::PulseDrive;
+use drive::token::StepToken;
+use drive::traits::Drive;
 
 // What an advance of any stepper promises of its output, said of each kind.
 fn advance_pulse(drive: &mut PulseDrive, n: i32) -> Result<(), DriveFault>

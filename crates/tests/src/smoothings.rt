@@ -1,10 +1,10 @@
 // Smoothing over creep, on examples.
-use crate::smoothed::Smoothed;
 use profile::creep::Creep;
 use profile::plan::Plan;
 use profile::rates::Rates;
 use profile::row::Row;
 use profile::traits::Profile;
+use smoothing::smoothed::Smoothed;
 use std::process::Abort;
 use std::test::Fail;
 

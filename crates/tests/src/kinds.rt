@@ -1,6 +1,6 @@
-use crate::choice::{OnBed, on_bed};
-use crate::motor::Motor;
 use bed::kind::{BaseProfile, BedKind, DriveKind, ProfileKind, Smoothings};
+use beds::choice::{OnBed, on_bed};
+use beds::motor::Motor;
 use profile::plan::Plan;
 use profile::rates::Rates;
 use profile::row::Row;

@@ -1,11 +1,11 @@
 // The figures, run on the code.
-use crate::worked::figure_count;
 use axis::axis::Axis;
 use block::pair::Pair;
 use block::refusal::answer_number;
 use drive::phase::PhaseDrive;
 use drive::pulse::PulseDrive;
 use drive::traits::Drive;
+use figures::worked::figure_count;
 use profile::plan::Plan;
 use profile::rates::Rates;
 use profile::row::Row;
