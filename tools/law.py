@@ -740,7 +740,7 @@ def Law(g, a, call, answer, words, v, after):
         yield "rests"
 
 
-def Lawful(g, a, moments, watch=None):
+def LawfulRun(g, a, moments, watch=None):
     """The clauses that the first unlawful moment breaks and its number, or None. Whoever watches is told of each moment, of the account before
     it and of the one after it."""
     for number, m in enumerate(moments, 1):
@@ -814,11 +814,11 @@ def moments_of(axis, made):
 
 
 def judged(bed, made, axis_of=Axis, drive_of=Drive, profile_of=profile_named, watch=None):
-    """What Lawful says of the calls made of an axis at power-up."""
+    """What LawfulRun says of the calls made of an axis at power-up."""
     kind, place, tripped, words = bed
     axis = axis_of(drive_of(kind, place, tripped), profile_of(words))
     first = first_account(drive_means(axis.drive), profile_means(axis.profile))
-    return Lawful(axis.drive.reach, first, moments_of(axis, made), watch)
+    return LawfulRun(axis.drive.reach, first, moments_of(axis, made), watch)
 
 
 # ---- How often a clause has something to say

@@ -1250,7 +1250,7 @@ def trial(given, drawn):
                     first[0] = number
                 yield m
 
-        found = law.Lawful(made.drive.reach, right.first, moments())
+        found = law.LawfulRun(made.drive.reach, right.first, moments())
         strayed += first[0] is not None
         if found is not None:
             return strayed, (script, found[0], found[0] - (first[0] or found[0]), found[1])
@@ -1261,7 +1261,7 @@ def main():
     told = "-v" in sys.argv[1:]
     drawn, written = scripts()
     played = drawn + written
-    refused = [script for script in played if law.Lawful(script.axis.drive.reach, script.first, script.moments) is not None]
+    refused = [script for script in played if law.LawfulRun(script.axis.drive.reach, script.first, script.moments) is not None]
     short = [script for script in drawn if len(script.moments) <= LONGEST] + written
     good = not refused and trial({"axis": Taken, "drive": Drive, "profile": quick_named}, short) == (0, None)
     passed = []

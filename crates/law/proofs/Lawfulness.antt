@@ -17,7 +17,7 @@ use Rattle.law.proofs.Inputs.{setup_good, reading_good, event_good}
 use Rattle.law.proofs.Views.{view_is}
 use Rattle.law.specs.Accounts.{Account, first_account, account_after}
 use Rattle.law.specs.Calls.{Call, SetUp, Block, Event, Tick, Reading, Answer}
-use Rattle.law.specs.Law.{Law, Lawful}
+use Rattle.law.specs.Law.{Law, LawfulRun}
 use Rattle.law.specs.Moments.{Seen, Moment, view_of}
 use Rattle.law.specs.Runs.{answer_to, axis_after, CallUses, seen_of, Step, Run, more, RunsAreLawful}
 
@@ -65,11 +65,11 @@ module _ (g : ℕ) (all : TakesAll g) where
       subst (λ r. After (told m t) (record { call = o.call; answer = r; seen = o.seen }) m') (sym s.answers)
       (shown (told m t) o.call (answer_to g m o.call m'.profile) o.seen m' s.shows s.placed good fit)
 
-  run_lawful : (m : AxisMeans) (t : Trace) (os : List Moment) (m' : AxisMeans) → Holds m t → Fit g m → is_position m.drive.place ≡ true → Run g m os m' → Lawful g (told m t) os
+  run_lawful : (m : AxisMeans) (t : Trace) (os : List Moment) (m' : AxisMeans) → Holds m t → Fit g m → is_position m.drive.place ≡ true → Run g m os m' → LawfulRun g (told m t) os
   run_lawful m t [] m' h f here r = tt
   run_lawful m t (o ∷ os) m' h f here (more {m₁ = m₁} s r) =
       let q = step_good m t o m₁ h f here s in
-      (q.law, subst (λ a. Lawful g a os) (sym q.account) (run_lawful m₁ q.besides os m' q.holds q.fit s.placed r))
+      (q.law, subst (λ a. LawfulRun g a os) (sym q.account) (run_lawful m₁ q.besides os m' q.holds q.fit s.placed r))
 
 pub lawful : RunsAreLawful
 lawful g l h d p os m here r =

@@ -127,8 +127,8 @@ pub record Law (g : ℕ) (a : Account) (c : Call) (r : Answer) (ws : List ℤ) (
   pub rests : Settles (account_after a c r v).resting
 
 -- each moment of a run keeps the law, after those before it
-abbrev pub Lawful : ℕ → Account → List Moment → Type 0
-Lawful g a [] = Unit {0}
-Lawful g a (m ∷ ms) =
+abbrev pub LawfulRun : ℕ → Account → List Moment → Type 0
+LawfulRun g a [] = Unit {0}
+LawfulRun g a (m ∷ ms) =
     Law g a m.call m.answer m.seen.words (view_of m.seen)
-    × Lawful g (account_after a m.call m.answer (view_of m.seen)) ms
+    × LawfulRun g (account_after a m.call m.answer (view_of m.seen)) ms

@@ -13,7 +13,7 @@ use Rattle.axis.specs.Setups.{setup_answer, setup_after}
 use Rattle.axis.specs.Ticks.{tick_steps, tick_after, TickUses}
 use Rattle.law.specs.Accounts.{first_account}
 use Rattle.law.specs.Calls.{Call, SetUp, Block, Event, Tick, Reading, Answer, Replied, Sent, Read}
-use Rattle.law.specs.Law.{Lawful}
+use Rattle.law.specs.Law.{LawfulRun}
 use Rattle.law.specs.Moments.{Seen, Moment}
 
 -- what a call answers of an axis that means m, by its contract; p is what the profile means after it
@@ -64,4 +64,4 @@ pub data Run (g : ℕ) : AxisMeans → List Moment → AxisMeans → Type 0 wher
 abbrev pub RunsAreLawful : Type 0
 RunsAreLawful =
     (g : ℕ) → 1 ≤ g → g ≤ 200 → (d : DriveMeans) (p : ProfileMeans) (os : List Moment) (m : AxisMeans) → is_position d.place ≡ true
-    → Run g (powered_up d p) os m → Lawful g (first_account d p) os
+    → Run g (powered_up d p) os m → LawfulRun g (first_account d p) os

@@ -6,7 +6,7 @@ use Rattle.profile.specs.Profiles.{ProfileMeans, Sound}
 use Rattle.axis.specs.Axes.{AxisMeans, powered_up}
 use Rattle.law.specs.Accounts.{first_account}
 use Rattle.law.specs.Calls as law
-use Rattle.law.specs.Law.{Lawful}
+use Rattle.law.specs.Law.{LawfulRun}
 use Rattle.law.specs.Moments.{Moment}
 use Rattle.law.specs.Runs.{answer_to, axis_after, CallUses, seen_of, Step, Run}
 use Rattle.runs.specs.declared.call.Call.{Call}
@@ -69,4 +69,4 @@ pub record Ran (g : ℕ) (d : DriveMeans) (p : ProfileMeans) (cs : List Call) (e
   pub run : Run g (powered_up d p) moments m
   pub calls : map (λ (o : Moment). o.call) moments ≡ map call_means cs
   pub journal : map noted moments ≡ map entry_means es
-  pub lawful : Lawful g (first_account d p) moments
+  pub lawful : LawfulRun g (first_account d p) moments
