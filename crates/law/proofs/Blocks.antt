@@ -20,7 +20,7 @@ use Rattle.table.specs.Segments.{row_of, way_of}
 use Rattle.table.specs.TablePlans.{row_at, blend_plan, row_plan}
 use Rattle.table.specs.Tables.{TableMeans, closed, added}
 use Rattle.table.specs.declared.segment.Segment.{Segment}
-use Rattle.axis.proofs.Commands.{leg_to, absolute_is, relative_is, resume_is, preset_is, segment_is, blend_is, dwell_is}
+use Rattle.axis.proofs.Commands.{single_to, absolute_is, relative_is, resume_is, preset_is, segment_is, blend_is, dwell_is}
 use Rattle.axis.specs.Axes.{AxisMeans, with_memory}
 use Rattle.axis.specs.Blocks.{closes, is_limit, marked, answered, finished, UsesBy, kept_axis, answer_of, after, UsesOf}
 use Rattle.axis.specs.Carrying.{began, go_travel, row_travel, held, preset, reset, programmed, carried, Uses}
@@ -169,7 +169,7 @@ module _ (g : ℕ) (k : AxisMeans) (t : Trace) (w : ℕ) (words : List ℤ) (b :
     rows_are = ap (rows_after t.rows) (ap (ordered_in w) is ∙ cm)
 
     -- a single move
-    goes : IsResting t k.drive.place k.profile → (to : ℤ) → command_effect a co b ≡ single a b to → rows_by t.rows co b ≡ t.rows → Begun k.profile (single_plan k (leg_to b to)) p → G (Ok tt) (began k (go_travel k (leg_to b to)) p)
+    goes : IsResting t k.drive.place k.profile → (to : ℤ) → command_effect a co b ≡ single a b to → rows_by t.rows co b ≡ t.rows → Begun k.profile (single_plan k (single_to b to)) p → G (Ok tt) (began k (go_travel k (single_to b to)) p)
     goes r to ef ro begun =
         let plan : PlanMeans = plan_in k.memory.table.start b (record { steps = distance k.drive.place to; speed = speed_in b } ∷ []) in
         let leg : Leg = record { way = toward k.drive.place to; plan = plan } in
