@@ -1,5 +1,5 @@
 -- A delivery: more steps than an `i32` holds are too far for any drive, as the most that it holds are.
-use Rattle.std.proofs.Common.{◌≡◌, ℕ, ◌<◌, ◌≤◌, min, Bool, cond, ℤ, pos, nat_abs, Err, Result, sym, ap, ◌∙◌, ⊎_elim, arith}
+use Rattle.std.proofs.Common.{◌≡◌, ℕ, ◌<◌, ◌≤◌, min, Bool, true, cond, ℤ, pos, nat_abs, is_ok, Err, Result, sym, ap, ◌∙◌, ⊎_elim, arith}
 use Rattle.std.proofs.lemmas.Bool.{cases_lt, lt-ltb}
 use Rattle.drive.proofs.Landings.{nat_abs_signed}
 use Rattle.drive.specs.Deliveries.{Delivered}
@@ -21,18 +21,22 @@ refused_alike :
     (b : Bool) (m m' : DriveMeans) (x y : ℤ) (r : Result ℤ DriveFault) → Moved m (cond b (Err Tripped) (Err TooFar)) x r m' → Moved m (cond b (Err Tripped) (Err TooFar)) y r m'
 refused_alike b m m' x y r v = grind (arith, v)
 
+-- and is not accepted
+refused_far : (b : Bool) (m m' : DriveMeans) (x : ℤ) (r : Result ℤ DriveFault) → Moved m (cond b (Err Tripped) (Err TooFar)) x r m' → is_ok r ≡ true → ⊥
+refused_far b m m' x r v e = grind (arith, v)
+
 -- what is true of as many steps as an `i32` holds is true of all
 pub delivered :
-    {D : Type 0} (means : D → DriveMeans) (g : ℕ) (d : Direction) (s : ℕ) (before : D) (r : Result ℤ DriveFault) (after : D) → g ≤ 200
-    → Delivered means g (signed d (min s 2147483647)) before r after → Delivered means g (signed d s) before r after
-delivered means g d s before r after reach v =
+    {D : Type 0} (means : D → DriveMeans) (Advanced : D → ℤ → D → Type 0) (g : ℕ) (d : Direction) (s : ℕ) (before : D) (r : Result ℤ DriveFault) (after : D) → g ≤ 200
+    → Delivered means Advanced g (signed d (min s 2147483647)) before r after → Delivered means Advanced g (signed d s) before r after
+delivered means Advanced g d s before r after reach v =
     ⊎_elim
     (λ (h : 2147483647 < s).
+    let w = rw (far g (means before) d (min s 2147483647) (omega arith)) at v.some (λ e. omega (arith, signed_none d (min s 2147483647) e)) in
     record {
       none = λ e. absurd (omega (arith, signed_none d s e));
-      some = λ _.
-          let w = v.some (λ e. omega (arith, signed_none d (min s 2147483647) e)) in
-          rw (far g (means before) d s (omega arith)) (refused_alike _ _ _ _ _ _ (rw (far g (means before) d (min s 2147483647) (omega arith)) at w));
+      some = λ _. rw (far g (means before) d s (omega arith)) (refused_alike _ _ _ _ _ _ w);
+      once = λ _ e. absurd (refused_far _ _ _ _ _ w e);
       refused = v.refused;
     })
     (λ (h : s ≤ 2147483647).

@@ -16,7 +16,7 @@ pub fn send<D: Drive>(
     sent: u64,
     direction: Direction,
 ) -> Result<i32, DriveFault>
-    ensures { Delivered D.Drive.means D.Drive.G (signed direction (gone / 1000 - sent)) drive.old result drive.new }
+    ensures { Delivered D.Drive.means D.Drive.Advanced D.Drive.G (signed direction (gone / 1000 - sent)) drive.old result drive.new }
 {
     let token = StepToken::count(gone, sent, direction);
     token.deliver(drive)

@@ -1,5 +1,5 @@
 // A motor's drive, as everything above it sees it.
-ghost use Rattle.std.specs.Prelude.{◌≡◌, ℕ, ◌≤◌, true, false, is_ok};
+ghost use Rattle.std.specs.Prelude.{◌≡◌, ℕ, ℤ, ◌≤◌, true, false, is_ok};
 ghost use Rattle.drive.specs.Positions.{is_position};
 ghost use Rattle.drive.specs.Drives.{DriveMeans, Moved, landing, setting, with_trip};
 
@@ -14,9 +14,13 @@ pub trait Drive {
     // Its place, and whether it is tripped.
     ghost means: { Self → DriveMeans };
 
+    // What one accepted advance makes of the whole drive, beyond what its meaning says.
+    ghost Advanced: { Self → ℤ → Self → Type 0 };
+
     // Goes `n` steps at once, clockwise where `n` is positive.
     fn advance(&mut self, n: i32) -> Result<(), DriveFault>
         ensures moved { Moved (means self.old) (landing G (means self.old) n) tt result (means self.new) }
+        ensures advanced { is_ok result ≡ true → Advanced self.old n self.new }
         ensures refused { is_ok result ≡ false → self.new ≡ self.old };
 
     // Calls the place where it stands `p`.

@@ -1,5 +1,5 @@
 // The tick call.
-ghost use Rattle.std.specs.Prelude.{◌≡◌, false, pos, if◌then◌else◌, Some, None, MatchBool};
+ghost use Rattle.std.specs.Prelude.{◌≡◌, ◌≢◌, ℤ, false, pos, if◌then◌else◌, Some, None, MatchBool};
 ghost use Rattle.table.specs.TablePlans.{row_plan};
 ghost use Rattle.table.specs.Tables.{table_means};
 ghost use Rattle.axis.specs.Axes.{meaning};
@@ -17,13 +17,14 @@ use profile::traits::Profile;
 impl<D: Drive, P: Profile> Axis<D, P> {
     // The profile ticks, and the steps due go to the drive; none where the drive refuses them.
     #[inline(always)]
-    #[tactic(auto, using(crate::proofs::Sending::sent))]
+    #[tactic(auto, using(crate::proofs::Sending::sent, crate::proofs::Sending::sent_once))]
     fn advance(&mut self, direction: Direction) -> Option<i32>
         ensures answer { result ≡ (if takes_all D.Drive.G (D.Drive.means self.old.drive) (due direction (P.Profile.means self.old.profile).gone (P.Profile.means self.new.profile)) then Some (due direction (P.Profile.means self.old.profile).gone (P.Profile.means self.new.profile)) else None) }
         ensures after { meaning D.Drive P.Profile self.new ≡ moved D.Drive.G (meaning D.Drive P.Profile self.old) direction (P.Profile.means self.old.profile).gone (P.Profile.means self.new.profile) }
         ensures ticked { OneTick (P.Profile.means self.old.profile) (P.Profile.means self.new.profile) }
         ensures refused { result ≡ None → self.new.drive ≡ self.old.drive }
         ensures none { result ≡ Some (pos 0) → self.new.drive ≡ self.old.drive }
+        ensures once { (n : ℤ) → result ≡ Some n → (n ≢ pos 0) → D.Drive.Advanced self.old.drive n self.new.drive }
     {
         let sent = self.profile.gone() / 1000;
         let advance = self.profile.tick();
@@ -41,6 +42,7 @@ impl<D: Drive, P: Profile> Axis<D, P> {
         ensures after { meaning D.Drive P.Profile self.new ≡ moved_on D.Drive.G self.old.memory.state (meaning D.Drive P.Profile self.old) direction (P.Profile.means self.old.profile).gone (P.Profile.means self.new.profile) }
         ensures ticked { OneTick (P.Profile.means self.old.profile) (P.Profile.means self.new.profile) }
         ensures none { result ≡ pos 0 → self.new.drive ≡ self.old.drive }
+        ensures once { (result ≢ pos 0) → D.Drive.Advanced self.old.drive result self.new.drive }
     {
         let Some(steps) = self.advance(direction) else {
             self.memory.stop();
@@ -56,6 +58,7 @@ impl<D: Drive, P: Profile> Axis<D, P> {
         ensures after { meaning D.Drive P.Profile self.new ≡ row_begun D.Drive.G (meaning D.Drive P.Profile self.old) row (P.Profile.means self.new.profile) }
         ensures uses { MatchBool (is_plan (row_plan (table_means self.old.memory.table) row.run.rates row.index)) (FirstTick (P.Profile.means self.old.profile) (row_plan (table_means self.old.memory.table) row.run.rates row.index) (P.Profile.means self.new.profile)) (P.Profile.means self.new.profile ≡ P.Profile.means self.old.profile) }
         ensures none { result ≡ pos 0 → self.new.drive ≡ self.old.drive }
+        ensures once { (result ≢ pos 0) → D.Drive.Advanced self.old.drive result self.new.drive }
     {
         let Ok(plan) = self.memory.table.row_plan(row.run.rates, row.index) else {
             self.memory.stop();
@@ -72,6 +75,7 @@ impl<D: Drive, P: Profile> Axis<D, P> {
         ensures after { meaning D.Drive P.Profile self.new ≡ tick_after D.Drive.G self.old.memory.state (meaning D.Drive P.Profile self.old) (P.Profile.means self.new.profile) }
         ensures uses { TickUses self.old.memory.state (meaning D.Drive P.Profile self.old) (P.Profile.means self.new.profile) }
         ensures none { result ≡ pos 0 → self.new.drive ≡ self.old.drive }
+        ensures once { (result ≢ pos 0) → D.Drive.Advanced self.old.drive result self.new.drive }
         ensures still { in_motion self.old.memory.state ≡ false → self.new.profile ≡ self.old.profile }
     {
         match self.memory.state {

@@ -51,12 +51,15 @@ impl<O: Output> Drive for Stepper<O> {
 
     ghost means = { stepper_means };
 
+    ghost Advanced = { λ before n after. output_of after ≡ O.moved (output_of before) n };
+
     ghost bounded = { O.bounded };
 
     ghost placed = { Prim.search rules };
 
     fn advance(&mut self, n: i32) -> Result<(), DriveFault>
         ensures moved { Moved (stepper_means self.old) (landing_of O.G (stepper_means self.old) n) tt result (stepper_means self.new) }
+        ensures advanced { is_ok result ≡ true → output_of self.new ≡ O.moved (output_of self.old) n }
         ensures refused { is_ok result ≡ false → self.new ≡ self.old }
         ensures output { output_of self.new ≡ output_after O.G O.moved self.old n }
     {
