@@ -27,8 +27,8 @@ stopped k = with_table (with_state (with_flags k (with_invalid k.flags true)) Id
 abbrev pub completed : MemoryMeans → MemoryMeans
 completed k = with_state (with_flags k (with_complete k.flags true)) Idle
 
--- the end of holding, with the drive at a place: a single move with steps unsent is held, one without is complete, and an
--- assembled move is over
+-- the end of holding, with the drive at a place: a single move with steps unsent is held, one without is complete, and a blend or a dwell
+-- move is over
 abbrev pub rested : MemoryMeans → ℤ → Kind → MemoryMeans
 rested k place (Single target) = cond (distance place target == 0) (completed k) (with_state k (Held target))
 rested k place Blend = with_state k Idle

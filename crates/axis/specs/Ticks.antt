@@ -19,10 +19,11 @@ use Rattle.axis.specs.declared.state.State.TheVariants.{Idle, Programming, Runni
 abbrev pub due : Direction → ℕ → ProfileMeans → ℤ
 due way gone p = signed way (p.gone / 1000 - gone / 1000)
 
--- whether the drive takes n steps, and what it means then; where there are none, it is not called
+-- whether the drive takes n steps; where there are none, it is not called
 unfoldable pub takes_all : ℕ → DriveMeans → ℤ → Bool
 takes_all g d n = unsigned_abs n == 0 || is_ok (landing g d n)
 
+-- what the drive means then
 unfoldable pub sent_to : ℕ → DriveMeans → ℤ → DriveMeans
 sent_to g d n = cond (unsigned_abs n == 0) d (landed d (landing g d n))
 
@@ -51,11 +52,12 @@ moved_on g s m way gone p =
 abbrev pub is_plan : PlanMeans → Bool
 is_plan plan = not (is_some (plan_fault plan))
 
--- the tick that begins the next row of a dwell move ticks it at once; where there is no such row, a full stop
+-- the steps of the tick that begins the next row of a dwell move, which ticks it at once; where there is no such row, a full stop
 abbrev pub row_steps : ℕ → AxisMeans → DwellRow → ProfileMeans → ℤ
 row_steps g m row p =
     cond (is_plan (row_plan m.memory.table row.run.rates row.index)) (steps_sent g m (row_travel m.memory.table row).direction 0 p) (pos 0)
 
+-- what that tick makes of the axis
 abbrev pub row_begun : ℕ → AxisMeans → DwellRow → ProfileMeans → AxisMeans
 row_begun g m row p =
     cond (is_plan (row_plan m.memory.table row.run.rates row.index))
@@ -80,7 +82,8 @@ tick_steps g (Pausing next ticks) m p = cond (ticks == 0) (row_steps g m next p)
 tick_steps g (Holding travel) m p = steps_sent g m travel.direction m.profile.gone p
 tick_steps g (Held target) m p = pos 0
 
--- and what it makes of the axis: at rest nothing, in a pause it counts
+-- What it makes of the axis: in motion the plan goes on, a pause is counted, and the tick after a pause begins the next row; in any other
+-- state nothing.
 abbrev pub tick_after : ℕ → State → AxisMeans → ProfileMeans → AxisMeans
 tick_after g Idle m p = m
 tick_after g Programming m p = m

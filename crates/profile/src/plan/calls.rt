@@ -14,14 +14,14 @@ impl Plan {
         self.start
     }
 
-    // The most that the speed grows by in a tick.
+    // The acceleration.
     pub fn accel(&self) -> u32
         ensures { result ≡ (plan_means self.now).accel }
     {
         self.rates.accel
     }
 
-    // The most that the speed falls by in a tick.
+    // The deceleration.
     pub fn decel(&self) -> u32
         ensures { result ≡ (plan_means self.now).decel }
     {
