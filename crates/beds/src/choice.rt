@@ -2,10 +2,12 @@
 ghost use Rattle.std.specs.Prelude.{◌≡◌, ℕ};
 ghost use Rattle.drive.specs.Drives.{DriveMeans, at_rest};
 ghost use Rattle.profile.specs.Profiles.{ProfileMeans};
-ghost use Rattle.beds.specs.Choices.{Fresh, reach_of, lag_of, lag_with, smoothed_lag};
-ghost use Rattle.smoothing.specs.Smoothing.{smooth_means};
+ghost use Rattle.beds.specs.Choices.{Fresh, Shape, reach_of, lag_of, lag_with, smoothed_lag, smoothed_shape, shape_with, shape_of};
+ghost use Rattle.smoothing.specs.Lengths.{length_for};
+ghost use Rattle.smoothing.specs.Smoothing.{smooth_means, length_over};
 
 use crate::motor::Motor;
+use crate::shape::Shaped;
 use bed::kind::{BaseProfile, BedKind, DriveKind, ProfileKind, Smoothings};
 use drive::phase::PhaseDrive;
 use drive::pulse::PulseDrive;
@@ -18,28 +20,29 @@ use smoothing::smoothed::Smoothed;
 pub trait OnBed: Sized {
     type Output;
 
-    // What it comes to, over a drive of some reach, by what the drive and the profile mean.
-    ghost Comes: { Self → ℕ → DriveMeans → ProfileMeans → Self.Output → Type 0 };
+    // What it comes to, over a drive of some reach and a profile of some shape, by what the drive and the profile mean.
+    ghost Comes: { Self → ℕ → DriveMeans → Shape → ProfileMeans → Self.Output → Type 0 };
 
-    fn run<D: Motor + Drop, P: Profile + Drop>(self, drive: D, profile: P) -> Self::Output
-        ensures { Comes self D.Drive.G (D.Drive.means drive) (P.means profile) result };
+    fn run<D: Motor + Drop, P: Shaped + Drop>(self, drive: D, profile: P) -> Self::Output
+        ensures { Comes self D.Drive.G (D.Drive.means drive) (P.Shaped.shape profile) (P.Profile.means profile) result };
 }
 
-fn smooth<P: Profile>(below: P, length: u32) -> Smoothed<P>
-    ensures { (lag : ℕ) → Fresh lag (P.means below) → Fresh (smoothed_lag lag length) (smooth_means result) }
+fn smooth<P: Shaped>(below: P, length: u32) -> Smoothed<P>
+    ensures fresh { (lag : ℕ) → Fresh lag (P.Profile.means below) → Fresh (smoothed_lag lag length) (smooth_means result) }
+    ensures shape { smoothed_shape (length_over result) (P.Shaped.shape result.below) ≡ smoothed_shape (length_for length) (P.Shaped.shape below) }
 {
     Smoothed::new(below, length as usize)
 }
 
 // Over this drive and this profile, smoothed so often.
-fn on_base<D: Motor + Drop, P: Profile + Drop, T: OnBed>(
+fn on_base<D: Motor + Drop, P: Shaped + Drop, T: OnBed>(
     drive: D,
     base: P,
     smoothings: Smoothings,
     task: T,
 ) -> T::Output
-    requires { Fresh 0 (P.means base) }
-    ensures { (m : ProfileMeans) × Fresh (lag_with smoothings) m × T.Comes task D.Drive.G (D.Drive.means drive) m result }
+    requires { Fresh 0 (P.Profile.means base) }
+    ensures { (m : ProfileMeans) × Fresh (lag_with smoothings) m × T.Comes task D.Drive.G (D.Drive.means drive) (shape_with smoothings (P.Shaped.shape base)) m result }
 {
     match smoothings {
         Smoothings::Unsmoothed => task.run(drive, base),
@@ -50,7 +53,7 @@ fn on_base<D: Motor + Drop, P: Profile + Drop, T: OnBed>(
 
 // Over this drive and a new profile of this kind.
 fn on_drive<D: Motor + Drop, T: OnBed>(drive: D, kind: ProfileKind, task: T) -> T::Output
-    ensures { (m : ProfileMeans) × Fresh (lag_of kind) m × T.Comes task D.Drive.G (D.Drive.means drive) m result }
+    ensures { (m : ProfileMeans) × Fresh (lag_of kind) m × T.Comes task D.Drive.G (D.Drive.means drive) (shape_of kind) m result }
 {
     match kind.base {
         BaseProfile::Creep => on_base(drive, Creep::new(), kind.smoothings, task),
@@ -60,7 +63,7 @@ fn on_drive<D: Motor + Drop, T: OnBed>(drive: D, kind: ProfileKind, task: T) -> 
 
 // Over a new drive and a new profile of the kinds that a bed has.
 pub fn on_bed<T: OnBed>(bed: BedKind, task: T) -> T::Output
-    ensures { (m : ProfileMeans) × Fresh (lag_of bed.profile) m × T.Comes task (reach_of bed.drive) at_rest m result }
+    ensures { (m : ProfileMeans) × Fresh (lag_of bed.profile) m × T.Comes task (reach_of bed.drive) at_rest (shape_of bed.profile) m result }
 {
     match bed.drive {
         DriveKind::Pulse => on_drive(PulseDrive::new(), bed.profile, task),

@@ -3,3 +3,4 @@
 
 pub mod choice;
 pub mod motor;
+pub mod shape;

@@ -10,6 +10,7 @@ use crate::prepare::prepare;
 use axis::axis::Axis;
 use beds::choice::{OnBed, on_bed};
 use beds::motor::Motor;
+use beds::shape::Shaped;
 use drive::traits::Drive;
 use profile::traits::Profile;
 use runs::call::Call;
@@ -40,9 +41,9 @@ fn end<D: Motor, P: Profile>(axis: &Axis<D, P>) -> End
 impl OnBed for Calls<'_> {
     type Output = Result<Finished, Interrupted>;
 
-    ghost Comes = { λ task g d p result. Comes g (prepared d task.start) p task.calls.now result };
+    ghost Comes = { λ task g d shape p result. Comes g (prepared d task.start) p task.calls.now result };
 
-    fn run<D: Motor + Drop, P: Profile + Drop>(
+    fn run<D: Motor + Drop, P: Shaped + Drop>(
         self,
         mut drive: D,
         profile: P,

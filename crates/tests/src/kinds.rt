@@ -1,6 +1,7 @@
 use bed::kind::{BaseProfile, BedKind, DriveKind, ProfileKind, Smoothings};
 use beds::choice::{OnBed, on_bed};
 use beds::motor::Motor;
+use beds::shape::Shaped;
 use profile::plan::Plan;
 use profile::rates::Rates;
 use profile::row::Row;
@@ -13,13 +14,9 @@ struct ThirdAdvance;
 impl OnBed for ThirdAdvance {
     type Output = (Option<u8>, u32);
 
-    ghost Comes = { λ _ _ _ _ _. Unit {0} };
+    ghost Comes = { λ _ _ _ _ _ _. Unit {0} };
 
-    fn run<D: Motor + Drop, P: Profile + Drop>(
-        self,
-        drive: D,
-        mut profile: P,
-    ) -> (Option<u8>, u32) {
+    fn run<D: Motor + Drop, P: Shaped + Drop>(self, drive: D, mut profile: P) -> (Option<u8>, u32) {
         let rates = Rates {
             accel: 100,
             decel: 100,
