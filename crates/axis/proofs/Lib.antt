@@ -1,4 +1,3 @@
-pub mod Commands
 pub mod Orders
 pub mod Questions
 pub mod Readiness

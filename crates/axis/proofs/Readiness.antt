@@ -21,7 +21,7 @@ use Rattle.table.specs.declared.table.Table.{Table}
 use Rattle.axis.proofs.Orders.{Follows}
 use Rattle.axis.specs.Axes.{AxisMeans}
 use Rattle.axis.specs.Carrying.{Ready}
-use Rattle.axis.specs.Judging.{programs, in_range, speed_fits, rate_fits, rates_fit, pace_fits, distance_fits, segment_fits, rates_of, single_of, segment_of}
+use Rattle.axis.specs.Questions.{programs, in_range, speed_fits, rate_fits, rates_fit, pace_fits, distance_fits, segment_fits, rates_of, single_of, segment_of}
 use Rattle.axis.specs.Plans.{single_plan, blend_end}
 use Rattle.axis.specs.declared.numbers.Numbers.{Numbers}
 

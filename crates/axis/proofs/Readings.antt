@@ -7,7 +7,7 @@ use Rattle.drive.specs.Positions.{is_position}
 use Rattle.drive.specs.declared.direction.Direction.TheVariants.{Cw, Ccw}
 use Rattle.block.specs.Pairs.{joined, thousands, over, decoded}
 use Rattle.axis.specs.Axes.{AxisMeans}
-use Rattle.axis.specs.Judging.{programs, is_held}
+use Rattle.axis.specs.Questions.{programs, is_held}
 use Rattle.axis.specs.Readings.{flag, bit, is_moving, moves, accelerates, decelerates, waits, status_of, inputs_of, status_bits, input_bits, BitsSay}
 
 weighs : (n : ℕ) (on : Bool) → cond on n 0 ≡ n * cond on 1 0

@@ -1,6 +1,6 @@
 -- A block, from its words to what it makes of the axis.
 use Rattle.std.specs.Prelude.{◌≡◌, ℕ, ◌^◌, Bool, true, false, cond, ◌&&◌, Ok, Err, Result}
-use Rattle.block.specs.Commands.{bit_of}
+use Rattle.block.specs.Commands.{bit_of, commanded}
 use Rattle.block.specs.Words.{rising, falls}
 use Rattle.block.specs.declared.command.Command.TheVariants as command
 use Rattle.block.specs.declared.frame.Block.{Block}
@@ -10,7 +10,7 @@ use Rattle.profile.specs.Profiles.{ProfileMeans}
 use Rattle.table.specs.Tables.{closed}
 use Rattle.axis.specs.Axes.{AxisMeans, with_memory}
 use Rattle.axis.specs.Carrying.{carried, Uses}
-use Rattle.axis.specs.Judging.{programs, judged}
+use Rattle.axis.specs.Questions.{programs, order_by}
 use Rattle.axis.specs.Memories.{MemoryMeans, with_table, with_state, with_kept, with_flags, with_command, with_input}
 use Rattle.axis.specs.declared.order.Order.{Order}
 use Rattle.axis.specs.declared.state.State.TheVariants.{Idle}
@@ -67,11 +67,11 @@ calls f (Err why) = false
 abbrev pub kept_axis : AxisMeans → Block → AxisMeans
 kept_axis m b = with_memory m (kept_by m.memory b.bits)
 
--- what a block orders, or why it is refused
+-- What a block orders, or why it is refused: its word is kept, and then it is asked from the third question on.
 abbrev pub order_of : ℕ → AxisMeans → Block → Result Order Refusal
-order_of g m b = judged g (kept_axis m b) (rising m.memory.kept b.bits) b
+order_of g m b = order_by g (kept_axis m b) b (commanded (rising m.memory.kept b.bits))
 
--- what a block answers; g is the drive's reach, and words that cannot be read are refused with 1 or 2
+-- what a block answers; g is the drive's reach, and words that cannot be read, which the first two questions are about, are refused with 1 or 2
 abbrev pub answer_of : ℕ → AxisMeans → Result Block Refusal → Result (Unit {0}) Refusal
 answer_of g m (Ok b) = answered (order_of g m b)
 answer_of g m (Err why) = Err why

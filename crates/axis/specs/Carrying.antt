@@ -9,7 +9,7 @@ use Rattle.table.specs.Segments.{way_of}
 use Rattle.table.specs.TablePlans.{row_at, blend_plan, row_plan}
 use Rattle.table.specs.Tables.{TableMeans, emptied, added, takes}
 use Rattle.axis.specs.Axes.{AxisMeans, with_memory}
-use Rattle.axis.specs.Judging.{runs}
+use Rattle.axis.specs.Questions.{runs}
 use Rattle.axis.specs.Memories.{MemoryMeans, with_table, with_state, with_flags, with_pace, with_command, with_input, with_invalid, with_complete, no_pace}
 use Rattle.axis.specs.Plans.{single_plan}
 use Rattle.axis.specs.Stops.{stopped, eased}

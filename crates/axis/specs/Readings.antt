@@ -10,7 +10,7 @@ use Rattle.block.specs.declared.refusal.Refusal.{Refusal}
 use Rattle.block.specs.declared.refusal.Refusal.TheVariants as refusal
 use Rattle.table.specs.Tables.{has_room}
 use Rattle.axis.specs.Axes.{AxisMeans}
-use Rattle.axis.specs.Judging.{programs, is_held}
+use Rattle.axis.specs.Questions.{programs, is_held}
 use Rattle.axis.specs.Memories.{MemoryMeans}
 use Rattle.axis.specs.declared.state.State.{State}
 use Rattle.axis.specs.declared.state.State.TheVariants.{Idle, Programming, Running, Pausing, Holding, Held}

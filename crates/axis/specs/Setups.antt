@@ -5,7 +5,8 @@ use Rattle.block.specs.declared.refusal.Refusal.{Refusal}
 use Rattle.block.specs.declared.refusal.Refusal.TheVariants as refusal
 use Rattle.table.specs.Tables.{emptied}
 use Rattle.axis.specs.Axes.{AxisMeans, with_memory}
-use Rattle.axis.specs.Judging.{asked, in_range}
+use Rattle.axis.specs.Judging.{asked}
+use Rattle.axis.specs.Questions.{in_range}
 use Rattle.axis.specs.Memories.{MemoryMeans, with_table, with_flags, with_configuration, with_invalid}
 use Rattle.axis.specs.declared.state.State.{State}
 use Rattle.axis.specs.declared.state.State.TheVariants.{Idle, Programming, Running, Pausing, Holding, Held}

@@ -1,6 +1,6 @@
 // The state of the axis.
 ghost use Rattle.std.specs.Prelude.{◌≡◌};
-ghost use Rattle.axis.specs.Judging.{programs, is_held};
+ghost use Rattle.axis.specs.Questions.{programs, is_held};
 ghost use Rattle.axis.specs.Readings.{is_moving, moves};
 
 use crate::order::DwellRow;

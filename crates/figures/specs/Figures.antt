@@ -1,12 +1,13 @@
 -- A worked figure says what the rules make of some numbers. Whether it holds is computed by the rules' own definitions: of pairs of words, of
 -- braking, of constant acceleration, of smoothing, and of a Resume.
-use Rattle.std.specs.Prelude.{ℕ, ◌/◌, Bool, false, ◌&&◌, ℤ, pos, Some, None, Ok, Option, ◌==◌, List, replicate}
+use Rattle.std.specs.Prelude.{ℕ, ◌/◌, Bool, false, ◌&&◌, ℤ, pos, Some, None, Option, ◌==◌, List, [], ◌∷◌, replicate}
 use Rattle.axis.specs.Axes.{powered_up}
-use Rattle.axis.specs.Judging.{said}
+use Rattle.axis.specs.Questions.{is_pair, first_no}
 use Rattle.axis.specs.Plans.{single_plan}
 use Rattle.block.specs.Pairs.{decoded, encoded}
 use Rattle.block.specs.Refusals.{answer_of}
 use Rattle.block.specs.declared.pair.Pair.{Pair}
+use Rattle.block.specs.declared.refusal.Refusal.TheVariants as refusal
 use Rattle.drive.specs.Positions.{distance as steps_between}
 use Rattle.figures.specs.Motions.{Motion, begun, ticked_for, braked, goes_by, smoothed_by}
 use Rattle.profile.specs.Plans.{PlanMeans, plan_steps}
@@ -24,7 +25,7 @@ same_pair p (Some q) = steps_between p.first q.first == 0 && steps_between p.sec
 
 -- what two words that a command uses answer
 unfoldable pub pair_answer : Pair → ℕ
-pair_answer p = answer_of (said (decoded p) (λ n. Ok tt))
+pair_answer p = answer_of (first_no (record { yes = is_pair p; no = refusal.Pair } ∷ []) tt)
 
 -- a profile without a plan, of no lag
 unfoldable pub unplanned : ProfileMeans

@@ -1,5 +1,5 @@
 -- Blocks.
-use Rattle.std.proofs.Common.{◌≡◌, ℕ, ◌<◌, ◌≤◌, Bool, true, false, cond, not, ◌||◌, eqb, ltb, List, [], ◌∷◌, ◌++◌, map, length, ℤ, pos, ◌+ℤ◌, nat_abs, Some, None, Ok, Err, Option, Result, MatchBool, refl, sym, ap, ◌∙◌, subst, arith}
+use Rattle.std.proofs.Common.{◌≡◌, ℕ, ◌<◌, ◌≤◌, Bool, true, false, cond, not, ◌||◌, eqb, ltb, List, [], ◌∷◌, ◌++◌, map, length, ℤ, pos, ◌+ℤ◌, nat_abs, is_some, Some, None, Ok, Err, Option, Result, MatchBool, refl, sym, ap, ◌∙◌, subst, arith}
 use Rattle.std.proofs.lemmas.Bool.{both_ways, or_right, or_left, false≢true, cond_both, and_parts, eqb-true, eqb-false, ltb-false}
 use Rattle.drive.specs.Directions.{signed, toward}
 use Rattle.drive.specs.Drives.{landed, setting}
@@ -15,16 +15,15 @@ use Rattle.block.specs.declared.command.Command.{Command}
 use Rattle.block.specs.declared.command.Command.TheVariants as command
 use Rattle.block.specs.declared.frame.Block.{Block}
 use Rattle.block.specs.declared.refusal.Refusal.{Refusal}
-use Rattle.block.specs.declared.refusal.Refusal.TheVariants as refusal
 use Rattle.table.specs.Segments.{row_of, way_of}
 use Rattle.table.specs.TablePlans.{row_at, blend_plan, row_plan}
 use Rattle.table.specs.Tables.{TableMeans, closed, added}
 use Rattle.table.specs.declared.segment.Segment.{Segment}
-use Rattle.axis.proofs.Commands.{single_to, absolute_is, relative_is, resume_is, preset_is, segment_is, blend_is, dwell_is}
+use Rattle.axis.proofs.Orders.{Accepted, accepted}
 use Rattle.axis.specs.Axes.{AxisMeans, with_memory}
 use Rattle.axis.specs.Blocks.{closes, is_limit, marked, answered, finished, UsesBy, kept_axis, answer_of, after, UsesOf}
 use Rattle.axis.specs.Carrying.{began, go_travel, row_travel, held, preset, reset, programmed, carried, Uses}
-use Rattle.axis.specs.Judging.{asked, rests, runs, programs, held_target, on_held, resume_judged, rates_of, run_of, allowed, values_judged, command_judged, judged, dwell_judged, blend_judged}
+use Rattle.axis.specs.Questions.{rests, runs, programs, held_target, numbers_in, to_place, rates_of, run_of, single_of, first_no, questions, ordered, order_by}
 use Rattle.axis.specs.Memories.{MemoryMeans, with_state, with_table, with_kept, with_flags, with_command, with_input}
 use Rattle.axis.specs.Plans.{single_plan}
 use Rattle.axis.specs.Stops.{stopped, completed, rested, eased}
@@ -101,12 +100,6 @@ held_there (Held x) t tb place p target e h = let z : x ≡ target = some_same x
     some_same : (a b : ℤ) → ◌≡◌ {A = Option ℤ} (Some a) (Some b) → a ≡ b
     some_same a b q = cc
 
-ordered_same : (x y : Order) → ◌≡◌ {A = Result Order Refusal} (Ok x) (Ok y) → y ≡ x
-ordered_same x y e = cc
-
-none_ordered : (why : Refusal) (x : Order) → ◌≡◌ {A = Result Order Refusal} (Err why) (Ok x) → ⊥
-none_ordered why x e = cc
-
 -- a block of an axis k whose word has been kept, after another
 module _ (g : ℕ) (k : AxisMeans) (t : Trace) (w : ℕ) (words : List ℤ) (b : Block) (is : block_of words ≡ Ok b) (kept_is : b.bits ≡ k.memory.kept) (h : Holds k t) (enough : k.memory.table.ready ≡ true → 0 < length k.memory.table.rows) (p : ProfileMeans) (s : Sound p) (ws : List ℤ) where
   abbrev a : Account
@@ -169,7 +162,7 @@ module _ (g : ℕ) (k : AxisMeans) (t : Trace) (w : ℕ) (words : List ℤ) (b :
     rows_are = ap (rows_after t.rows) (ap (ordered_in w) is ∙ cm)
 
     -- a single move
-    goes : IsResting t k.drive.place k.profile → (to : ℤ) → command_effect a co b ≡ single a b to → rows_by t.rows co b ≡ t.rows → Begun k.profile (single_plan k (single_to b to)) p → G (Ok tt) (began k (go_travel k (single_to b to)) p)
+    goes : IsResting t k.drive.place k.profile → (to : ℤ) → command_effect a co b ≡ single a b to → rows_by t.rows co b ≡ t.rows → Begun k.profile (single_plan k (single_of (to_place (numbers_in b) to))) p → G (Ok tt) (began k (go_travel k (single_of (to_place (numbers_in b) to))) p)
     goes r to ef ro begun =
         let plan : PlanMeans = plan_in k.memory.table.start b (record { steps = distance k.drive.place to; speed = speed_in b } ∷ []) in
         let leg : Leg = record { way = toward k.drive.place to; plan = plan } in
@@ -305,76 +298,54 @@ module _ (g : ℕ) (k : AxisMeans) (t : Trace) (w : ℕ) (words : List ℤ) (b :
           move_good g k t w c ws to leg ls legs (nat_abs b.dwell) (Dwell (record { run = run_of b; index = 0 })) p h is_legs refl refl tt ends begun s
           (effect_is ∙ (ef ∙ same)) (rows_are ∙ ro) keeps refl refl (stood r) tt
 
-  -- the order of a command that the state allows
-  carries : (co : Command) → ordered_in w (Ok b) ≡ Some (record { command = co; block = b }) → (o : Order) → allowed k co ≡ true → values_judged g k b co ≡ Ok o → Uses k o p → G (Ok tt) (carried k o p)
-  carries command.Absolute cm o al e u =
-      let q = absolute_is g k b o e in
-      subst (λ x. Uses k x p → G (Ok tt) (carried k x p)) (sym q) (goes command.Absolute cm (at_rest (and_parts (rests k.memory.state) _ al).0) (number_in b) refl refl) u
-  carries command.Relative cm o al e u =
-      let q = relative_is g k b o e in
-      subst (λ x. Uses k x p → G (Ok tt) (carried k x p)) (sym q) (goes command.Relative cm (at_rest (and_parts (rests k.memory.state) _ al).0) (k.drive.place +ℤ number_in b) refl refl) u
-  carries command.Hold cm o al e u =
-      let q : o ≡ order.Hold = ordered_same order.Hold o e in
-      subst (λ x. Uses k x p → G (Ok tt) (carried k x p)) (sym q) (λ v. holds_in command.Hold cm refl refl k.memory.state refl h.moving al v) u
-  carries command.Resume cm o al e u = on (held_target k.memory.state) refl e
-    where
-      on : (x : Option ℤ) → held_target k.memory.state ≡ x → on_held x (resume_judged g k b) ≡ Ok o → G (Ok tt) (carried k o p)
-      on None f r = absurd (none_ordered refusal.State o r)
-      on (Some target) f r =
-          let q = resume_is g k b target o r in
-          let there : target ≡ t.target = held_there k.memory.state t k.memory.table k.drive.place k.profile target f h.moving in
-          subst (λ x. Uses k x p → G (Ok tt) (carried k x p)) (sym q) (goes command.Resume cm (held_rests k.memory.state t k.memory.table k.drive.place k.profile target f h.moving) target (ap (λ x. single a b x) (sym there)) refl) u
-  carries command.Stop cm o al e u =
-      let q : o ≡ order.Stop = ordered_same order.Stop o e in
-      subst (λ x. Uses k x p → G (Ok tt) (carried k x p)) (sym q) (λ v. stops command.Stop cm refl refl) u
-  carries command.Preset cm o al e u =
-      let q = preset_is g k b o e in
-      let r = (and_parts (rests k.memory.state) _ al).0 in
-      subst (λ x. Uses k x p → G (Ok tt) (carried k x p)) (sym q.1) (λ v. presets command.Preset cm (number_in b) refl refl q.0 r) u
-  carries command.Reset cm o al e u =
-      let q : o ≡ order.Reset (clears_trip_of b) = ordered_same (order.Reset (clears_trip_of b)) o e in
-      subst (λ x. Uses k x p → G (Ok tt) (carried k x p)) (sym q) (λ v. resets command.Reset cm (clears_trip_of b) refl refl) u
-  carries command.Program cm o al e u =
-      let q : o ≡ order.Program = ordered_same order.Program o e in
-      let r = (and_parts (rests k.memory.state) _ al).0 in
-      subst (λ x. Uses k x p → G (Ok tt) (carried k x p)) (sym q) (λ v. begins command.Program cm refl refl r) u
-  carries command.Segment cm o al e u =
-      let q = segment_is g k b o e in
-      let r = (and_parts (programs k.memory.state) _ al).0 in
-      subst (λ x. Uses k x p → G (Ok tt) (carried k x p)) (sym q) (λ v. adds command.Segment cm (segment_in b) refl refl r) u
-  carries command.Run cm o al e u = on (is_dwell_of b) refl e
-    where
-      ready : k.memory.table.ready ≡ true
-      ready = (and_parts (not k.memory.flags.configuration) k.memory.table.ready (and_parts (rests k.memory.state) _ al).1).1
+  -- a Resume to the target that is held
+  resumes : (x : Option ℤ) → ordered_in w (Ok b) ≡ Some (record { command = command.Resume; block = b }) → held_target k.memory.state ≡ x → is_some x ≡ true
+      → Uses k (elim x [ None ↦ order.Nothing | Some target ↦ order.Go (single_of (to_place (numbers_in b) target)) ]) p
+      → G (Ok tt) (carried k (elim x [ None ↦ order.Nothing | Some target ↦ order.Go (single_of (to_place (numbers_in b) target)) ]) p)
+  resumes None cm f al u = absurd (false≢true al)
+  resumes (Some target) cm f al u =
+      let there : target ≡ t.target = held_there k.memory.state t k.memory.table k.drive.place k.profile target f h.moving in
+      goes command.Resume cm (held_rests k.memory.state t k.memory.table k.drive.place k.profile target f h.moving) target (ap (λ x. single a b x) (sym there)) refl u
 
-      rows : t.rows ≡ k.memory.table.rows
-      rows = h.rows (or_right _ _ ready)
+  -- a Run of the table, whose rows are those of the latest programming
+  runs_rows : (x : Bool) → ordered_in w (Ok b) ≡ Some (record { command = command.Run; block = b }) → is_dwell_of b ≡ x → k.memory.table.ready ≡ true → rests k.memory.state ≡ true
+      → Uses k (cond x (order.Dwell (run_of b)) (order.Blend (direction_of b) (rates_of b))) p
+      → G (Ok tt) (carried k (cond x (order.Dwell (run_of b)) (order.Blend (direction_of b) (rates_of b))) p)
+  runs_rows true cm f ready st u =
+      dwells command.Run cm refl (h.rows (or_right _ _ ready)) (at_rest st) (ap (λ z. cond z (dwell a b) (blend a b)) f) (enough ready) u
+  runs_rows false cm f ready st u =
+      blends command.Run cm refl (h.rows (or_right _ _ ready)) (at_rest st) (ap (λ z. cond z (dwell a b) (blend a b)) f) u
 
-      on : (x : Bool) → is_dwell_of b ≡ x → cond x (dwell_judged k b) (blend_judged k b) ≡ Ok o → G (Ok tt) (carried k o p)
-      on true f r =
-          let q = dwell_is g k b o r in
-          subst (λ x. Uses k x p → G (Ok tt) (carried k x p)) (sym q) (λ v. dwells command.Run cm refl rows (at_rest (and_parts (rests k.memory.state) _ al).0) (ap (λ z. cond z (dwell a b) (blend a b)) f) (enough ready) v) u
-      on false f r =
-          let q = blend_is g k b o r in
-          subst (λ x. Uses k x p → G (Ok tt) (carried k x p)) (sym q) (λ v. blends command.Run cm refl rows (at_rest (and_parts (rests k.memory.state) _ al).0) (ap (λ z. cond z (dwell a b) (blend a b)) f) v) u
+  -- the order of a command that is accepted
+  carries : (co : Command) → ordered_in w (Ok b) ≡ Some (record { command = co; block = b }) → (o : Order) → Accepted g k b co o → Uses k (ordered k b co) p → G (Ok tt) (carried k (ordered k b co) p)
+  carries command.Absolute cm o q u = goes command.Absolute cm (at_rest (and_parts (rests k.memory.state) _ q.state).0) (number_in b) refl refl u
+  carries command.Relative cm o q u = goes command.Relative cm (at_rest (and_parts (rests k.memory.state) _ q.state).0) (k.drive.place +ℤ number_in b) refl refl u
+  carries command.Hold cm o q u = holds_in command.Hold cm refl refl k.memory.state refl h.moving q.state u
+  carries command.Resume cm o q u = resumes (held_target k.memory.state) cm refl q.state u
+  carries command.Stop cm o q u = stops command.Stop cm refl refl
+  carries command.Preset cm o q u = presets command.Preset cm (number_in b) refl refl q.fits (and_parts (rests k.memory.state) _ q.state).0
+  carries command.Reset cm o q u = resets command.Reset cm (clears_trip_of b) refl refl
+  carries command.Program cm o q u = begins command.Program cm refl refl (and_parts (rests k.memory.state) _ q.state).0
+  carries command.Segment cm o q u = adds command.Segment cm (segment_in b) refl refl (and_parts (programs k.memory.state) _ q.state).0
+  carries command.Run cm o q u =
+      let st = and_parts (rests k.memory.state) _ q.state in
+      runs_rows (is_dwell_of b) cm refl (and_parts (not k.memory.flags.configuration) k.memory.table.ready st.1).1 st.0 u
 
   abbrev Told : Result Order Refusal → Type 0
   Told r = UsesBy k r p → G (answered r) (finished k r p)
 
-  of_values : (co : Command) → ordered_in w (Ok b) ≡ Some (record { command = co; block = b }) → allowed k co ≡ true → (r : Result Order Refusal) → values_judged g k b co ≡ r → Told r
-  of_values co cm al (Ok o) e u = carries co cm o al e u
-  of_values co cm al (Err why) e u = refuses_with why u
+  of_questions : (co : Command) → ordered_in w (Ok b) ≡ Some (record { command = co; block = b }) → (r : Result Order Refusal) → first_no (questions g k b co) (ordered k b co) ≡ r → Told r
+  of_questions co cm (Ok o) e u =
+      let q = accepted g k b co o e in
+      subst (λ x. Uses k x p → G (Ok tt) (carried k x p)) (sym q.is) (carries co cm o q) u
+  of_questions co cm (Err why) e u = refuses_with why u
 
-  of_allowed : (co : Command) → ordered_in w (Ok b) ≡ Some (record { command = co; block = b }) → (q : Bool) → allowed k co ≡ q → Told (asked q refusal.State (values_judged g k b co))
-  of_allowed co cm true al u = of_values co cm al (values_judged g k b co) refl u
-  of_allowed co cm false al u = refuses_with refusal.State u
-
-  of_command : (r : Result (Option Command) Refusal) → commanded (rising w b.bits) ≡ r → Told (command_judged g k b r)
+  of_command : (r : Result (Option Command) Refusal) → commanded (rising w b.bits) ≡ r → Told (order_by g k b r)
   of_command (Err why) e u = refuses_with why u
   of_command (Ok None) e u = orders_with (ap (ordered_by b) e) u
-  of_command (Ok (Some co)) e u = of_allowed co (ap (ordered_by b) e) (allowed k co) refl u
+  of_command (Ok (Some co)) e u = of_questions co (ap (ordered_by b) e) (first_no (questions g k b co) (ordered k b co)) refl u
 
-  pub kept_good : Told (judged g k (rising w b.bits) b)
+  pub kept_good : Told (order_by g k b (commanded (rising w b.bits)))
   kept_good = of_command (commanded (rising w b.bits)) refl
 
 -- what keeping a word leaves

@@ -5,7 +5,7 @@ use Rattle.profile.specs.Profiles.{ProfileMeans, up_div, fastest}
 use Rattle.table.specs.Tables.{TableMeans}
 use Rattle.table.specs.declared.segment.Segment.{Segment}
 use Rattle.axis.specs.Axes.{AxisMeans}
-use Rattle.axis.specs.Judging.{programs}
+use Rattle.axis.specs.Questions.{programs}
 use Rattle.axis.specs.Stops.{table_stopped}
 use Rattle.axis.specs.declared.state.State.{State}
 use Rattle.axis.specs.declared.state.State.TheVariants.{Idle, Programming, Running, Pausing, Holding, Held}

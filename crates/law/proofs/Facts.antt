@@ -8,7 +8,7 @@ use Rattle.table.specs.Segments.{row_of, way_of}
 use Rattle.table.specs.Tables.{TableMeans}
 use Rattle.table.specs.declared.segment.Segment.{Segment}
 use Rattle.axis.specs.Axes.{AxisMeans}
-use Rattle.axis.specs.Judging.{programs}
+use Rattle.axis.specs.Questions.{programs}
 use Rattle.axis.specs.declared.order.DwellRow.{DwellRow}
 use Rattle.axis.specs.declared.order.DwellRun.{DwellRun}
 use Rattle.axis.specs.declared.state.Kind.{Kind}

@@ -14,7 +14,7 @@ use Rattle.table.specs.Courses.{is_clear}
 use Rattle.table.specs.Tables.{TableMeans, emptied}
 use Rattle.axis.specs.Axes.{AxisMeans, with_memory}
 use Rattle.axis.specs.EventCalls.{travels, with_level, with_estop, limited, answer_of, after_of}
-use Rattle.axis.specs.Judging.{programs}
+use Rattle.axis.specs.Questions.{programs}
 use Rattle.axis.specs.Memories.{MemoryMeans, with_flags, with_levels, with_input}
 use Rattle.axis.specs.Readings.{reading_answer, read_into, status_words}
 use Rattle.axis.specs.Setups.{is_idle, start_fits, configured, misconfigured, setup_answer, setup_after}

@@ -9,6 +9,7 @@ use Rattle.profile.specs.Plans.{plan_steps}
 use Rattle.profile.specs.Profiles.{ProfileMeans, Begun, Braked}
 use Rattle.profile.specs.Rows.{steps_of, top_of}
 use Rattle.profile.specs.declared.row.Row.{Row}
+use Rattle.block.specs.Commands.{commanded}
 use Rattle.block.specs.Frames.{direction_of}
 use Rattle.block.specs.Words.{rising}
 use Rattle.block.specs.declared.frame.Block.{Block}
@@ -18,7 +19,7 @@ use Rattle.table.specs.TablePlans.{blend_plan}
 use Rattle.table.specs.Tables.{TableMeans, closed}
 use Rattle.unrefused.proofs.CallFits.{Kept, either, stop_fits, eased_fits}
 use Rattle.unrefused.proofs.Motions.{begins, brakes}
-use Rattle.axis.proofs.Orders.{Follows, judged_follows}
+use Rattle.axis.proofs.Orders.{Follows, order_follows}
 use Rattle.axis.proofs.Readiness.{Sane, within, some_way, ready}
 use Rattle.unrefused.proofs.RowFits.{empty_fits, added_fits, closed_fits, tops_slow, row_begins, row_leaves}
 use Rattle.axis.specs.Axes.{AxisMeans, with_memory}
@@ -26,7 +27,7 @@ use Rattle.axis.specs.Memories.{MemoryMeans, with_table, with_state, with_kept}
 use Rattle.axis.specs.Blocks.{closes, kept_by, finished, UsesBy, kept_axis, order_of, after, UsesOf}
 use Rattle.axis.specs.Carrying.{began, go_travel, held, carried, Uses, Ready}
 use Rattle.unrefused.specs.Fits.{InPause, Underway, Fit}
-use Rattle.axis.specs.Judging.{programs, runs, inhibited, speed_fits, rates_fit, pace_fits, distance_fits}
+use Rattle.axis.specs.Questions.{programs, runs, inhibited, speed_fits, rates_fit, pace_fits, distance_fits}
 use Rattle.axis.specs.Plans.{single_plan, blend_end}
 use Rattle.axis.specs.declared.order.DwellRow.{DwellRow}
 use Rattle.axis.specs.declared.order.SingleMove.{SingleMove}
@@ -181,7 +182,7 @@ block_fits g l m (Ok b) p here f u =
     let s = sane g k l here fit in
     finished_fits g k fit here (order_of g m b) p
     (λ o e. (
-      judged_follows g k (Ready k) (ready g k s) (rising m.memory.kept b.bits) b o e,
-      judged_follows g k (Asked g k) (are_asked g k) (rising m.memory.kept b.bits) b o e,
+      order_follows g k (Ready k) (ready g k s) b (commanded (rising m.memory.kept b.bits)) o e,
+      order_follows g k (Asked g k) (are_asked g k) b (commanded (rising m.memory.kept b.bits)) o e,
     )) u
 block_fits g l m (Err why) p here f u = f

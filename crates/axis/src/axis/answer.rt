@@ -3,7 +3,6 @@ ghost use Rattle.std.specs.Prelude.{◌≡◌, false, is_ok};
 ghost use Rattle.block.specs.Frames.{block_of};
 ghost use Rattle.axis.specs.Axes.{meaning};
 ghost use Rattle.axis.specs.Carrying.{calls_drive, calls_profile};
-ghost use Rattle.axis.specs.Questions.{answer_by};
 ghost use Rattle.axis.specs.Blocks.{kept_axis, order_of, answered, finished, UsesBy, calls, answer_of, after as after_of, UsesOf, calls_of};
 
 use crate::axis::Axis;
@@ -39,7 +38,6 @@ impl<D: Drive, P: Profile> Axis<D, P> {
     // One block of command words, which are only read. It is refused with the first question whose answer is no.
     pub fn block(&mut self, words: &[i16]) -> Result<(), Refusal>
         ensures answer { result ≡ answer_of D.Drive.G (meaning D.Drive P.Profile self.old) (block_of words.now) }
-        ensures questions { result ≡ answer_by D.Drive.G (meaning D.Drive P.Profile self.old) (block_of words.now) }
         ensures after { meaning D.Drive P.Profile self.new ≡ after_of D.Drive.G (meaning D.Drive P.Profile self.old) (block_of words.now) (P.Profile.means self.new.profile) }
         ensures uses { UsesOf D.Drive.G (meaning D.Drive P.Profile self.old) (block_of words.now) (P.Profile.means self.new.profile) }
         ensures unread { is_ok (block_of words.now) ≡ false → self.new ≡ self.old }

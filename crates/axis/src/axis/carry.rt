@@ -5,7 +5,7 @@ ghost use Rattle.profile.specs.Plans.{Lawful, plan_means};
 ghost use Rattle.profile.specs.Profiles.{Begun, Braked};
 ghost use Rattle.axis.specs.Axes.{meaning};
 ghost use Rattle.axis.specs.Carrying.{began, go_travel, held, preset as preset_of, reset as reset_of, carried, Uses, calls_profile, calls_drive, Ready};
-ghost use Rattle.axis.specs.Judging.{runs};
+ghost use Rattle.axis.specs.Questions.{runs};
 ghost use Rattle.axis.specs.Plans.{single_plan};
 
 use crate::axis::Axis;

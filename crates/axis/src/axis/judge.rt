@@ -1,7 +1,9 @@
 // A block is judged first, which changes nothing: what it orders, or why it is refused.
 ghost use Rattle.std.specs.Prelude.{◌≡◌, ◌≤◌, ◌&&◌, Ok, ◌+ℤ◌, unsigned_abs};
+ghost use Rattle.block.specs.Commands.{commanded as commanded_by};
 ghost use Rattle.axis.specs.Axes.{meaning};
-ghost use Rattle.axis.specs.Judging.{asked, allowed, inhibited as inhibited_of, speed_fits, rate_fits, rates_fit, rates_of, single_of, dwell_fits, run_of, pace_fits, distance_fits, segment_fits, segment_of, go_judged, on_course, may_move, valid_asked, absolute_asked, relative_asked, segment_asked, single_asked, resume_judged, blend_judged, dwell_judged, preset_judged, values_judged, judged};
+ghost use Rattle.axis.specs.Judging.{asked, go_judged, on_course, may_move, valid_asked, absolute_asked, relative_asked, segment_asked, single_asked, resume_judged, blend_judged, dwell_judged, preset_judged, values_judged};
+ghost use Rattle.axis.specs.Questions.{allowed, inhibited as inhibited_of, speed_fits, rate_fits, rates_fit, rates_of, single_of, dwell_fits, run_of, pace_fits, distance_fits, segment_fits, segment_of, order_by};
 
 use crate::axis::Axis;
 use crate::numbers::{Numbers, number};
@@ -19,7 +21,7 @@ use table::course::{goes_to, stays_on};
 use table::segment::Segment;
 
 // An acceleration or a deceleration, where it is in range.
-#[tactic(auto, unfolding(crate::specs::Judging::rate_fits))]
+#[tactic(auto, unfolding(crate::specs::Questions::rate_fits))]
 fn rate(number: i16) -> Result<u32, Refusal>
     ensures { result ≡ asked (rate_fits number) Refusal.Range (Ok (unsigned_abs number)) }
 {
@@ -30,7 +32,7 @@ fn rate(number: i16) -> Result<u32, Refusal>
 }
 
 // Both rates of a block. The types are those of other crates, so this is no `TryFrom`; those below are written like it.
-#[tactic(auto, unfolding(crate::specs::Judging::rates_fit))]
+#[tactic(auto, unfolding(crate::specs::Questions::rates_fit))]
 fn rates_of(block: Block) -> Result<Rates, Refusal>
     ensures { result ≡ asked (rates_fit block) Refusal.Range (Ok (rates_of block)) }
 {
@@ -41,7 +43,7 @@ fn rates_of(block: Block) -> Result<Rates, Refusal>
 }
 
 // The ticks between the rows of a run, where they are in range.
-#[tactic(auto, unfolding(crate::specs::Judging::dwell_fits))]
+#[tactic(auto, unfolding(crate::specs::Questions::dwell_fits))]
 fn dwell_of(block: Block) -> Result<u32, Refusal>
     ensures { result ≡ asked (dwell_fits block) Refusal.Range (Ok (unsigned_abs block.dwell)) }
 {
@@ -62,7 +64,7 @@ fn run_of(block: Block) -> Result<DwellRun, Refusal>
 }
 
 // The distance of a row: not 0, and within the positions.
-#[tactic(auto, unfolding(crate::specs::Judging::distance_fits))]
+#[tactic(auto, unfolding(crate::specs::Questions::distance_fits))]
 fn distance(number: i32) -> Result<i32, Refusal>
     ensures { result ≡ asked (distance_fits number) Refusal.Range (Ok number) }
 {
@@ -104,7 +106,7 @@ impl<D: Drive, P: Profile> Axis<D, P> {
     }
 
     // Are Input_Error, the E-stop or a trip on?
-    #[tactic(auto, unfolding(crate::specs::Judging::inhibited))]
+    #[tactic(auto, unfolding(crate::specs::Questions::inhibited))]
     fn is_inhibited(&self) -> bool
         ensures { result ≡ inhibited_of (meaning D.Drive P.Profile self.now) }
     {
@@ -112,7 +114,7 @@ impl<D: Drive, P: Profile> Axis<D, P> {
     }
 
     // A speed from the starting speed to what the drive goes in a tick.
-    #[tactic(auto, unfolding(crate::specs::Judging::speed_fits))]
+    #[tactic(auto, unfolding(crate::specs::Questions::speed_fits))]
     fn speed(&self, number: i32) -> Result<u32, Refusal>
         ensures { result ≡ asked (speed_fits D.Drive.G (meaning D.Drive P.Profile self.now) number) Refusal.Range (Ok (unsigned_abs number)) }
     {
@@ -123,7 +125,7 @@ impl<D: Drive, P: Profile> Axis<D, P> {
     }
 
     // A single move to the place of the numbers, where its speed and its rates are in range.
-    #[tactic(auto, unfolding(crate::specs::Judging::pace_fits))]
+    #[tactic(auto, unfolding(crate::specs::Questions::pace_fits))]
     fn single_of(&self, numbers: Numbers) -> Result<SingleMove, Refusal>
         ensures { result ≡ asked (pace_fits D.Drive.G (meaning D.Drive P.Profile self.now) numbers) Refusal.Range (Ok (single_of numbers)) }
     {
@@ -304,8 +306,9 @@ impl<D: Drive, P: Profile> Axis<D, P> {
     }
 
     // What a block orders by the bits that rise.
+    #[tactic(auto, using(crate::proofs::Questions::values_are))]
     pub(crate) fn judge(&self, rising: u16, block: Block) -> Result<Order, Refusal>
-        ensures { result ≡ judged D.Drive.G (meaning D.Drive P.Profile self.now) rising block }
+        ensures { result ≡ order_by D.Drive.G (meaning D.Drive P.Profile self.now) block (commanded_by rising) }
     {
         let Some(command) = commanded(rising)? else {
             return Ok(Order::Nothing);
