@@ -16,14 +16,14 @@ pub struct Flags {
 }
 
 // The limit switches and the E-stop: true while on.
-#[derive(Clone, Copy, PartialEq, Eq, Debug, Default)]
+#[derive(Clone, Copy, Default)]
 pub struct Levels {
     pub limits: Limits,
     pub estop: bool,
 }
 
 // The last advance of the plan in millisteps, and the one before; 0 before the first.
-#[derive(Clone, Copy, PartialEq, Eq, Debug, Default)]
+#[derive(Clone, Copy, Default)]
 pub struct Pace {
     pub last: u32,
     pub before: u32,

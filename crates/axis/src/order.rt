@@ -4,7 +4,7 @@ use profile::rates::Rates;
 use table::segment::Segment;
 
 // A move to a target at a speed.
-#[derive(Clone, Copy, PartialEq, Eq, Debug)]
+#[derive(Clone, Copy)]
 pub struct SingleMove {
     pub target: i32,
     pub speed: u32,
@@ -12,20 +12,20 @@ pub struct SingleMove {
 }
 
 // A run of the table row by row, with a dwell in ticks between rows.
-#[derive(Clone, Copy, PartialEq, Eq, Debug)]
+#[derive(Clone, Copy)]
 pub struct DwellRun {
     pub rates: Rates,
     pub dwell: u32,
 }
 
 // One row of such a run, by its index in the table.
-#[derive(Clone, Copy, PartialEq, Eq, Debug)]
+#[derive(Clone, Copy)]
 pub struct DwellRow {
     pub run: DwellRun,
     pub index: usize,
 }
 
-#[derive(Clone, Copy, PartialEq, Eq, Debug)]
+#[derive(Clone, Copy)]
 pub enum Order {
     // No bit rises.
     Nothing,

@@ -6,7 +6,7 @@ ghost use Rattle.axis.specs.Readings.{is_moving, moves};
 use crate::order::DwellRow;
 use drive::direction::Direction;
 
-#[derive(Clone, Copy, PartialEq, Eq, Debug)]
+#[derive(Clone, Copy)]
 pub enum State {
     Idle,
     Programming,
@@ -21,13 +21,13 @@ pub enum State {
 }
 
 // The plan in motion: its direction, and the move that it belongs to.
-#[derive(Clone, Copy, PartialEq, Eq, Debug)]
+#[derive(Clone, Copy)]
 pub struct Travel {
     pub direction: Direction,
     pub kind: Kind,
 }
 
-#[derive(Clone, Copy, PartialEq, Eq, Debug)]
+#[derive(Clone, Copy)]
 pub enum Kind {
     // A move of one plan to this target.
     Single(i32),
