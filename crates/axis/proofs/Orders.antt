@@ -11,7 +11,7 @@ use Rattle.block.specs.declared.refusal.Refusal.TheVariants as refusal
 use Rattle.table.specs.Courses.{goes_to, stays_on}
 use Rattle.table.specs.Tables.{has_room}
 use Rattle.axis.specs.Axes.{AxisMeans}
-use Rattle.axis.specs.Questions.{rests, programs, held_target, allowed, numbers_in, to_place, led_to, rates_fit, dwell_fits, pace_fits, segment_fits, pairs_obey, values_fit, inhibited, may_go, is_valid, course_fits, limits_off, first_no, questions, rates_of, single_of, segment_of, run_of, ordered, order_by}
+use Rattle.axis.specs.Questions.{rests, programs, held_target, allowed, numbers_in, to_place, led_to, rates_fit, dwell_fits, pace_fits, segment_fits, pairs_obey, values_fit, inhibited, may_go, is_valid, course_fits, limits_off, first_no, questions, rates_of, single_of, segment_of, run_of, order_for, order_by}
 use Rattle.axis.specs.Plans.{blend_end}
 use Rattle.axis.specs.declared.numbers.Numbers.{Numbers}
 use Rattle.axis.specs.declared.order.Order.{Order}
@@ -32,9 +32,9 @@ pub record Accepted (g : ℕ) (m : AxisMeans) (b : Block) (c : Command) (o : Ord
   pub fits : values_fit g m b c ≡ true
   pub goes : may_go m c ≡ true
   pub course : course_fits m b c ≡ true
-  pub is : o ≡ ordered m b c
+  pub is : o ≡ order_for m b c
 
-pub accepted : (g : ℕ) (m : AxisMeans) (b : Block) (c : Command) (o : Order) → first_no (questions g m b c) (ordered m b c) ≡ Ok o → Accepted g m b c o
+pub accepted : (g : ℕ) (m : AxisMeans) (b : Block) (c : Command) (o : Order) → first_no (questions g m b c) (order_for m b c) ≡ Ok o → Accepted g m b c o
 accepted g m b c o e =
     let state = passes (allowed m c) refusal.State _ o e in
     let pair = passes (pairs_obey b c) refusal.Pair _ o state.1 in
@@ -43,7 +43,7 @@ accepted g m b c o e =
     let valid = passes (is_valid m c) refusal.PositionInvalid _ o goes.1 in
     let course = passes (course_fits m b c) refusal.Course _ o valid.1 in
     let clear = passes (limits_off m b c) refusal.Limit _ o course.1 in
-    record { state = state.0; fits = fits.0; goes = goes.0; course = course.0; is = same (ordered m b c) o clear.1 }
+    record { state = state.0; fits = fits.0; goes = goes.0; course = course.0; is = same (order_for m b c) o clear.1 }
   where
     same : (x y : Order) → ◌≡◌ {A = Result Order Refusal} (Ok x) (Ok y) → y ≡ x
     same x y q = cc
@@ -85,7 +85,7 @@ module _ (g : ℕ) (m : AxisMeans) (Q : Order → Type 0) (f : Follows g m Q) (b
   run_follows true p i r w = f.dwell b (and_parts (rates_fit b) (dwell_fits b) p).0 i r w
   run_follows false p i r w = f.blend b p i r w
 
-  command_follows : (c : Command) (o : Order) → Accepted g m b c o → Q (ordered m b c)
+  command_follows : (c : Command) (o : Order) → Accepted g m b c o → Q (order_for m b c)
   unfolding pace_fits
   command_follows command.Absolute o a = f.go (numbers_in b) (and_parts (is_position (numbers_in b).place) _ a.fits).1 a.goes a.course
   command_follows command.Relative o a = f.go (led_to m (numbers_in b)) (and_parts (is_position (numbers_in b).place) _ a.fits).1 a.goes a.course

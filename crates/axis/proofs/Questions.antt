@@ -15,7 +15,7 @@ use Rattle.table.specs.Courses.{goes_to, stays_on, is_clear, are_clear}
 use Rattle.axis.specs.Axes.{AxisMeans}
 use Rattle.axis.specs.Judging.{asked, then_ask, said, numbers_of, on_held, on_its_course, go_judged, may_move, move_asked, single_asked, valid_asked, absolute_asked, relative_asked, segment_asked, resume_judged, blend_judged, dwell_judged, values_judged}
 use Rattle.axis.specs.Plans.{blend_end}
-use Rattle.axis.specs.Questions.{held_target, allowed, is_pair, numbers_in, led_to, to_place, inhibited, rates_fit, dwell_fits, pace_fits, rates_of, run_of, single_of, first_no, questions, ordered}
+use Rattle.axis.specs.Questions.{held_target, allowed, is_pair, numbers_in, led_to, to_place, inhibited, rates_fit, dwell_fits, pace_fits, rates_of, run_of, single_of, first_no, questions, order_for}
 use Rattle.axis.specs.declared.numbers.Numbers.{Numbers}
 use Rattle.axis.specs.declared.order.Order.{Order}
 use Rattle.axis.specs.declared.order.Order.TheVariants as order
@@ -104,7 +104,7 @@ module _ (g : ℕ) (m : AxisMeans) (b : Block) where
       ∙ ap (λ r. asked (rates_fit b) refusal.Range (asked (not (inhibited m)) refusal.Inhibited r)) (course_is m (blend_end m (direction_of b)) (direction_of b) (order.Blend (direction_of b) (rates_of b)))
 
   -- a command, from the fourth question on
-  is_order : (c : Command) → asked (allowed m c) refusal.State (values_judged g m b c) ≡ first_no (questions g m b c) (ordered m b c)
+  is_order : (c : Command) → asked (allowed m c) refusal.State (values_judged g m b c) ≡ first_no (questions g m b c) (order_for m b c)
   unfolding pace_fits
   is_order command.Absolute =
       let n = numbers_in b in
@@ -129,5 +129,5 @@ module _ (g : ℕ) (m : AxisMeans) (b : Block) where
   is_order command.Run = ap (λ r. asked (allowed m command.Run) refusal.State r) (run_is (is_dwell_of b))
 
   -- the same, once the state allows it
-  pub values_are : (c : Command) → allowed m c ≡ true → values_judged g m b c ≡ first_no (questions g m b c) (ordered m b c)
-  values_are c a = subst (λ q. asked q refusal.State (values_judged g m b c) ≡ first_no (questions g m b c) (ordered m b c)) a (is_order c)
+  pub values_are : (c : Command) → allowed m c ≡ true → values_judged g m b c ≡ first_no (questions g m b c) (order_for m b c)
+  values_are c a = subst (λ q. asked q refusal.State (values_judged g m b c) ≡ first_no (questions g m b c) (order_for m b c)) a (is_order c)

@@ -68,26 +68,26 @@ abbrev pub kept_axis : AxisMeans → Block → AxisMeans
 kept_axis m b = with_memory m (kept_by m.memory b.bits)
 
 -- What a block orders, or why it is refused: its word is kept, and then it is asked from the third question on.
-abbrev pub order_of : ℕ → AxisMeans → Block → Result Order Refusal
-order_of g m b = order_by g (kept_axis m b) b (commanded (rising m.memory.kept b.bits))
+abbrev pub block_order : ℕ → AxisMeans → Block → Result Order Refusal
+block_order g m b = order_by g (kept_axis m b) b (commanded (rising m.memory.kept b.bits))
 
 -- what a block answers; g is the drive's reach, and words that cannot be read, which the first two questions are about, are refused with 1 or 2
-abbrev pub answer_of : ℕ → AxisMeans → Result Block Refusal → Result (Unit {0}) Refusal
-answer_of g m (Ok b) = answered (order_of g m b)
-answer_of g m (Err why) = Err why
+abbrev pub block_answer : ℕ → AxisMeans → Result Block Refusal → Result (Unit {0}) Refusal
+block_answer g m (Ok b) = answered (block_order g m b)
+block_answer g m (Err why) = Err why
 
 -- What it makes of the axis, where the profile then means p. Words that cannot be read change nothing at all; of any other block the word
 -- is kept, and its order carried out or its refusal noted.
-abbrev pub after : ℕ → AxisMeans → Result Block Refusal → ProfileMeans → AxisMeans
-after g m (Ok b) p = finished (kept_axis m b) (order_of g m b) p
-after g m (Err why) p = m
+abbrev pub block_after : ℕ → AxisMeans → Result Block Refusal → ProfileMeans → AxisMeans
+block_after g m (Ok b) p = finished (kept_axis m b) (block_order g m b) p
+block_after g m (Err why) p = m
 
 -- what it makes of the profile
-abbrev pub UsesOf : ℕ → AxisMeans → Result Block Refusal → ProfileMeans → Type 0
-UsesOf g m (Ok b) p = UsesBy (kept_axis m b) (order_of g m b) p
-UsesOf g m (Err why) p = p ≡ m.profile
+abbrev pub BlockUses : ℕ → AxisMeans → Result Block Refusal → ProfileMeans → Type 0
+BlockUses g m (Ok b) p = UsesBy (kept_axis m b) (block_order g m b) p
+BlockUses g m (Err why) p = p ≡ m.profile
 
 -- whether it calls the drive, or the profile, by what an order calls
-abbrev pub calls_of : (Order → Bool) → ℕ → AxisMeans → Result Block Refusal → Bool
-calls_of f g m (Ok b) = calls f (order_of g m b)
-calls_of f g m (Err why) = false
+abbrev pub block_calls : (Order → Bool) → ℕ → AxisMeans → Result Block Refusal → Bool
+block_calls f g m (Ok b) = calls f (block_order g m b)
+block_calls f g m (Err why) = false

@@ -35,33 +35,33 @@ abbrev pub limited : MemoryMeans → MemoryMeans
 limited k = cond (travels k.state) (halted_by_input k) k
 
 -- what each event makes of the axis
-abbrev pub event_after : AxisMeans → Event → AxisMeans
-event_after m (event.Limit way true) =
+abbrev pub heeded : AxisMeans → Event → AxisMeans
+heeded m (event.Limit way true) =
     with_memory m (cond (is_clear m.memory.levels.limits way) (limited (with_levels m.memory (with_level m.memory.levels way true))) m.memory)
-event_after m (event.Limit way false) = with_memory m (with_levels m.memory (with_level m.memory.levels way false))
-event_after m (event.EStop true) =
+heeded m (event.Limit way false) = with_memory m (with_levels m.memory (with_level m.memory.levels way false))
+heeded m (event.EStop true) =
     with_memory m (cond m.memory.levels.estop m.memory (halted_by_input (with_levels m.memory (with_estop m.memory.levels true))))
-event_after m (event.EStop false) = with_memory m (with_levels m.memory (with_estop m.memory.levels false))
-event_after m event.Trip =
+heeded m (event.EStop false) = with_memory m (with_levels m.memory (with_estop m.memory.levels false))
+heeded m event.Trip =
     cond m.drive.tripped m (record { drive = with_trip m.drive true; profile = m.profile; memory = stopped m.memory })
 
 -- only a trip of an untripped drive calls it
-abbrev pub calls_drive : AxisMeans → Event → Bool
-calls_drive m (event.Limit way on) = false
-calls_drive m (event.EStop on) = false
-calls_drive m event.Trip = cond m.drive.tripped false true
+abbrev pub trips_drive : AxisMeans → Event → Bool
+trips_drive m (event.Limit way on) = false
+trips_drive m (event.EStop on) = false
+trips_drive m event.Trip = cond m.drive.tripped false true
 
 -- what an event answers, by its code, which has to be an event's
-abbrev pub answer_of : Result Event Refusal → Result (Unit {0}) Refusal
-answer_of (Ok e) = Ok tt
-answer_of (Err why) = Err why
+abbrev pub event_answer : Result Event Refusal → Result (Unit {0}) Refusal
+event_answer (Ok e) = Ok tt
+event_answer (Err why) = Err why
 
 -- what it makes of the axis; any other code changes nothing
-abbrev pub after_of : AxisMeans → Result Event Refusal → AxisMeans
-after_of m (Ok e) = event_after m e
-after_of m (Err why) = m
+abbrev pub event_after : AxisMeans → Result Event Refusal → AxisMeans
+event_after m (Ok e) = heeded m e
+event_after m (Err why) = m
 
 -- whether it calls the drive
-abbrev pub calls_of : AxisMeans → Result Event Refusal → Bool
-calls_of m (Ok e) = calls_drive m e
-calls_of m (Err why) = false
+abbrev pub event_calls : AxisMeans → Result Event Refusal → Bool
+event_calls m (Ok e) = trips_drive m e
+event_calls m (Err why) = false

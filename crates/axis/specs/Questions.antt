@@ -254,22 +254,22 @@ abbrev pub run_of : Block → DwellRun
 run_of b = record { rates = rates_of b; dwell = unsigned_abs b.dwell }
 
 -- the order that each command gives; a Resume goes to the target that is held
-abbrev pub ordered : AxisMeans → Block → Command → Order
-ordered m b command.Absolute = order.Go (single_of (numbers_in b))
-ordered m b command.Relative = order.Go (single_of (led_to m (numbers_in b)))
-ordered m b command.Hold = order.Hold
-ordered m b command.Resume =
+abbrev pub order_for : AxisMeans → Block → Command → Order
+order_for m b command.Absolute = order.Go (single_of (numbers_in b))
+order_for m b command.Relative = order.Go (single_of (led_to m (numbers_in b)))
+order_for m b command.Hold = order.Hold
+order_for m b command.Resume =
     elim (held_target m.memory.state) [ None ↦ order.Nothing | Some target ↦ order.Go (single_of (to_place (numbers_in b) target)) ]
-ordered m b command.Stop = order.Stop
-ordered m b command.Preset = order.Preset (numbers_in b).place
-ordered m b command.Reset = order.Reset (clears_trip_of b)
-ordered m b command.Program = order.Program
-ordered m b command.Segment = order.Segment (segment_of (numbers_in b))
-ordered m b command.Run = cond (is_dwell_of b) (order.Dwell (run_of b)) (order.Blend (direction_of b) (rates_of b))
+order_for m b command.Stop = order.Stop
+order_for m b command.Preset = order.Preset (numbers_in b).place
+order_for m b command.Reset = order.Reset (clears_trip_of b)
+order_for m b command.Program = order.Program
+order_for m b command.Segment = order.Segment (segment_of (numbers_in b))
+order_for m b command.Run = cond (is_dwell_of b) (order.Dwell (run_of b)) (order.Blend (direction_of b) (rates_of b))
 
 -- The order of a block by what its rising bits command: the third question is whether only one bit rises; where none does, nothing is
 -- ordered.
 abbrev pub order_by : ℕ → AxisMeans → Block → Result (Option Command) Refusal → Result Order Refusal
-order_by g m b (Ok (Some c)) = first_no (questions g m b c) (ordered m b c)
+order_by g m b (Ok (Some c)) = first_no (questions g m b c) (order_for m b c)
 order_by g m b (Ok None) = Ok order.Nothing
 order_by g m b (Err why) = Err why

@@ -43,15 +43,15 @@ abbrev pub row_after : DwellRow → DwellRow
 row_after row = record { run = row.run; index = row.index + 1 }
 
 -- the end of a plan: a dwell move with another row pauses, any other move is complete
-abbrev pub ended : MemoryMeans → Kind → MemoryMeans
-ended k (Single target) = completed k
-ended k Blend = completed k
-ended k (Dwell row) =
+abbrev pub plan_ended : MemoryMeans → Kind → MemoryMeans
+plan_ended k (Single target) = completed k
+plan_ended k Blend = completed k
+plan_ended k (Dwell row) =
     cond (nat_lt (row.index + 1) (length k.table.rows)) (with_state k (Pausing (row_after row) row.run.dwell)) (completed k)
 
 -- running goes on until nothing is left
 abbrev pub arrived : MemoryMeans → Bool → Travel → MemoryMeans
-arrived k over travel = cond over (ended k travel.kind) (with_state k (Running travel))
+arrived k over travel = cond over (plan_ended k travel.kind) (with_state k (Running travel))
 
 -- a tick of a pause: one tick less to wait
 abbrev pub less_waited : State → State
@@ -66,13 +66,13 @@ abbrev pub waited : MemoryMeans → MemoryMeans
 waited k = with_state k (less_waited k.state)
 
 -- what moves goes on, with the drive at a place
-abbrev pub gone_on : State → MemoryMeans → Bool → ℤ → MemoryMeans
-gone_on Idle k over place = k
-gone_on Programming k over place = k
-gone_on (Running travel) k over place = arrived k over travel
-gone_on (Pausing next ticks) k over place = k
-gone_on (Holding travel) k over place = eased k over place travel
-gone_on (Held target) k over place = k
+abbrev pub kept_going : State → MemoryMeans → Bool → ℤ → MemoryMeans
+kept_going Idle k over place = k
+kept_going Programming k over place = k
+kept_going (Running travel) k over place = arrived k over travel
+kept_going (Pausing next ticks) k over place = k
+kept_going (Holding travel) k over place = eased k over place travel
+kept_going (Held target) k over place = k
 
 -- a stop by an input sets Input_Error
 abbrev pub halted_by_input : MemoryMeans → MemoryMeans

@@ -10,7 +10,7 @@ use Rattle.table.specs.TablePlans.{row_plan}
 use Rattle.axis.specs.Axes.{AxisMeans, with_memory}
 use Rattle.axis.specs.Carrying.{began, row_travel}
 use Rattle.axis.specs.Memories.{with_state, with_pace}
-use Rattle.axis.specs.Stops.{stopped, gone_on}
+use Rattle.axis.specs.Stops.{stopped, kept_going}
 use Rattle.axis.specs.declared.order.DwellRow.{DwellRow}
 use Rattle.axis.specs.declared.state.State.{State}
 use Rattle.axis.specs.declared.state.State.TheVariants.{Idle, Programming, Running, Pausing, Holding, Held}
@@ -45,7 +45,7 @@ abbrev pub moved_on : ℕ → State → AxisMeans → Direction → ℕ → Prof
 moved_on g s m way gone p =
     with_memory (moved g m way gone p)
     (cond (takes_all g m.drive (due way gone p))
-    (gone_on s (moved g m way gone p).memory (p.left == 0) (moved g m way gone p).drive.place)
+    (kept_going s (moved g m way gone p).memory (p.left == 0) (moved g m way gone p).drive.place)
     (stopped (moved g m way gone p).memory))
 
 -- numbers that make a plan

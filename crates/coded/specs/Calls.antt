@@ -4,13 +4,13 @@ use Rattle.coded.specs.declared.call.Call.{Call}
 use Rattle.coded.specs.declared.call.Call.TheVariants.{SetUp, Block, Event, Ticks, Reading, Drive}
 
 -- the number that a call begins with
-abbrev pub number_of : Call → ℕ
-number_of (SetUp speed) = 0
-number_of (Block bytes) = 1
-number_of (Event code) = 2
-number_of (Ticks count) = 3
-number_of (Reading size) = 4
-number_of Drive = 5
+abbrev pub call_number : Call → ℕ
+call_number (SetUp speed) = 0
+call_number (Block bytes) = 1
+call_number (Event code) = 2
+call_number (Ticks count) = 3
+call_number (Reading size) = 4
+call_number Drive = 5
 
 -- how many words a call answers
 abbrev pub answers_of : Call → ℕ

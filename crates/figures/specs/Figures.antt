@@ -9,7 +9,7 @@ use Rattle.block.specs.Refusals.{answer_of}
 use Rattle.block.specs.declared.pair.Pair.{Pair}
 use Rattle.block.specs.declared.refusal.Refusal.TheVariants as refusal
 use Rattle.drive.specs.Positions.{distance as steps_between}
-use Rattle.figures.specs.Motions.{Motion, begun, ticked_for, braked, goes_by, smoothed_by}
+use Rattle.figures.specs.Motions.{Motion, begun, after_ticks, after_brake, goes_by, smoothed_by}
 use Rattle.profile.specs.Plans.{PlanMeans, plan_steps}
 use Rattle.profile.specs.Profiles.{ProfileMeans}
 use Rattle.ramp.specs.Braking.{braking}
@@ -53,11 +53,11 @@ pub data Figure : Type 0 where
   -- the steps of a Resume, where the plan is held after so many ticks
   resumes : PlanMeans → (ticks : ℕ) → (steps : ℕ) → Figure
 
-unfoldable pub holds : Figure → Bool
-holds (pair n a b) = let p : Pair = record { first = a; second = b } in same_pair p (encoded n) && same_number n (decoded p)
-holds (no_pair a b k) = pair_answer (record { first = a; second = b }) == k
-holds (distance S D u b) = braking S D u == b
-holds (advances p us) = goes_by p (begun p) us
-holds (smooths p W gs) = smoothed_by p (begun p) (replicate W 0) gs
-holds (brakes p n us g) = let m : Motion = braked p (ticked_for n p (begun p)) in (m.asked == g) && goes_by p m us
-holds (resumes p n k) = plan_steps (resumed p (braked p (ticked_for n p (begun p))).asked) == k
+unfoldable pub figure_holds : Figure → Bool
+figure_holds (pair n a b) = let p : Pair = record { first = a; second = b } in same_pair p (encoded n) && same_number n (decoded p)
+figure_holds (no_pair a b k) = pair_answer (record { first = a; second = b }) == k
+figure_holds (distance S D u b) = braking S D u == b
+figure_holds (advances p us) = goes_by p (begun p) us
+figure_holds (smooths p W gs) = smoothed_by p (begun p) (replicate W 0) gs
+figure_holds (brakes p n us g) = let m : Motion = after_brake p (after_ticks n p (begun p)) in (m.asked == g) && goes_by p m us
+figure_holds (resumes p n k) = plan_steps (resumed p (after_brake p (after_ticks n p (begun p))).asked) == k

@@ -21,9 +21,9 @@ use Rattle.table.specs.Tables.{TableMeans, closed, added}
 use Rattle.table.specs.declared.segment.Segment.{Segment}
 use Rattle.axis.proofs.Orders.{Accepted, accepted}
 use Rattle.axis.specs.Axes.{AxisMeans, with_memory}
-use Rattle.axis.specs.Blocks.{closes, is_limit, marked, answered, finished, UsesBy, kept_axis, answer_of, after, UsesOf}
+use Rattle.axis.specs.Blocks.{closes, is_limit, marked, answered, finished, UsesBy, kept_axis, block_answer, block_after, BlockUses}
 use Rattle.axis.specs.Carrying.{began, go_travel, row_travel, held, preset, reset, programmed, carried, Uses}
-use Rattle.axis.specs.Questions.{rests, runs, programs, held_target, numbers_in, to_place, rates_of, run_of, single_of, first_no, questions, ordered, order_by}
+use Rattle.axis.specs.Questions.{rests, runs, programs, held_target, numbers_in, to_place, rates_of, run_of, single_of, first_no, questions, order_for, order_by}
 use Rattle.axis.specs.Memories.{MemoryMeans, with_state, with_table, with_kept, with_flags, with_command, with_input}
 use Rattle.axis.specs.Plans.{single_plan}
 use Rattle.axis.specs.Stops.{stopped, completed, rested, eased}
@@ -41,7 +41,7 @@ use Rattle.law.proofs.Facts.{plain, Trace, told, unmoved, rests_still, moves_sti
 use Rattle.law.proofs.Goods.{Good}
 use Rattle.law.proofs.Legs.{legs_next}
 use Rattle.law.proofs.Moves.{older, move_good, rows_end, single_ends}
-use Rattle.law.specs.Accounts.{Account, Moves, Holds as HoldsEffect, Stops, Presets, Nothing, ordered_by, ordered_in, kept_in, number_in, speed_in, segment_in, rows_by, rows_after, plan_in, single, blend, dwell, row_leg, sum_of, command_effect, block_effect}
+use Rattle.law.specs.Accounts.{Account, Moves, Holds as HoldsEffect, Stops, Presets, Nothing, ordered_by, ordered_in, kept_in, number_in, speed_in, segment_in, rows_by, rows_after, plan_by, single, blend, dwell, row_leg, sum_of, command_effect, block_effect}
 use Rattle.law.specs.Calls.{Call, Block as BlockCall, Replied}
 use Rattle.law.specs.Journeys.{Leg, Journey, none, held as held_on, braked}
 use Rattle.law.specs.Law.{Still, Travelling}
@@ -164,7 +164,7 @@ module _ (g : ℕ) (k : AxisMeans) (t : Trace) (w : ℕ) (words : List ℤ) (b :
     -- a single move
     goes : IsResting t k.drive.place k.profile → (to : ℤ) → command_effect a co b ≡ single a b to → rows_by t.rows co b ≡ t.rows → Begun k.profile (single_plan k (single_of (to_place (numbers_in b) to))) p → G (Ok tt) (began k (go_travel k (single_of (to_place (numbers_in b) to))) p)
     goes r to ef ro begun =
-        let plan : PlanMeans = plan_in k.memory.table.start b (record { steps = distance k.drive.place to; speed = speed_in b } ∷ []) in
+        let plan : PlanMeans = plan_by k.memory.table.start b (record { steps = distance k.drive.place to; speed = speed_in b } ∷ []) in
         let leg : Leg = record { way = toward k.drive.place to; plan = plan } in
         move_good g k t w c ws to leg [] (leg ∷ []) 0 (Single to) p h refl refl refl refl
         (single_ends k.drive.place to plan (speed_in b) refl) begun s (effect_is ∙ ef) (rows_are ∙ ro) keeps refl refl (stood r) tt
@@ -280,7 +280,7 @@ module _ (g : ℕ) (k : AxisMeans) (t : Trace) (w : ℕ) (words : List ℤ) (b :
           let leg : Leg = record { way = direction_of b; plan = blend_plan k.memory.table (rates_of b) } in
           let to : ℤ = k.drive.place +ℤ signed (direction_of b) (plan_steps leg.plan) in
           let same : blend a b ≡ Moves to (record { legs = leg ∷ []; pause = 0 }) =
-          ap (λ rs. Moves (k.drive.place +ℤ signed (direction_of b) (steps_of (map row_of rs))) (record { legs = record { way = direction_of b; plan = plan_in k.memory.table.start b (map row_of rs) } ∷ []; pause = 0 })) tb_is in
+          ap (λ rs. Moves (k.drive.place +ℤ signed (direction_of b) (steps_of (map row_of rs))) (record { legs = record { way = direction_of b; plan = plan_by k.memory.table.start b (map row_of rs) } ∷ []; pause = 0 })) tb_is in
           move_good g k t w c ws to leg [] (leg ∷ []) 0 Blend p h refl refl refl tt refl begun s (effect_is ∙ (ef ∙ same)) (rows_are ∙ ro) keeps refl refl (stood r) tt
 
       dwells : IsResting t k.drive.place k.profile → command_effect a co b ≡ dwell a b → 0 < length k.memory.table.rows → Begun k.profile (row_plan k.memory.table (rates_of b) 0) p
@@ -317,7 +317,7 @@ module _ (g : ℕ) (k : AxisMeans) (t : Trace) (w : ℕ) (words : List ℤ) (b :
       blends command.Run cm refl (h.rows (or_right _ _ ready)) (at_rest st) (ap (λ z. cond z (dwell a b) (blend a b)) f) u
 
   -- the order of a command that is accepted
-  carries : (co : Command) → ordered_in w (Ok b) ≡ Some (record { command = co; block = b }) → (o : Order) → Accepted g k b co o → Uses k (ordered k b co) p → G (Ok tt) (carried k (ordered k b co) p)
+  carries : (co : Command) → ordered_in w (Ok b) ≡ Some (record { command = co; block = b }) → (o : Order) → Accepted g k b co o → Uses k (order_for k b co) p → G (Ok tt) (carried k (order_for k b co) p)
   carries command.Absolute cm o q u = goes command.Absolute cm (at_rest (and_parts (rests k.memory.state) _ q.state).0) (number_in b) refl refl u
   carries command.Relative cm o q u = goes command.Relative cm (at_rest (and_parts (rests k.memory.state) _ q.state).0) (k.drive.place +ℤ number_in b) refl refl u
   carries command.Hold cm o q u = holds_in command.Hold cm refl refl k.memory.state refl h.moving q.state u
@@ -334,7 +334,7 @@ module _ (g : ℕ) (k : AxisMeans) (t : Trace) (w : ℕ) (words : List ℤ) (b :
   abbrev Told : Result Order Refusal → Type 0
   Told r = UsesBy k r p → G (answered r) (finished k r p)
 
-  of_questions : (co : Command) → ordered_in w (Ok b) ≡ Some (record { command = co; block = b }) → (r : Result Order Refusal) → first_no (questions g k b co) (ordered k b co) ≡ r → Told r
+  of_questions : (co : Command) → ordered_in w (Ok b) ≡ Some (record { command = co; block = b }) → (r : Result Order Refusal) → first_no (questions g k b co) (order_for k b co) ≡ r → Told r
   of_questions co cm (Ok o) e u =
       let q = accepted g k b co o e in
       subst (λ x. Uses k x p → G (Ok tt) (carried k x p)) (sym q.is) (carries co cm o q) u
@@ -343,7 +343,7 @@ module _ (g : ℕ) (k : AxisMeans) (t : Trace) (w : ℕ) (words : List ℤ) (b :
   of_command : (r : Result (Option Command) Refusal) → commanded (rising w b.bits) ≡ r → Told (order_by g k b r)
   of_command (Err why) e u = refuses_with why u
   of_command (Ok None) e u = orders_with (ap (ordered_by b) e) u
-  of_command (Ok (Some co)) e u = of_questions co (ap (ordered_by b) e) (first_no (questions g k b co) (ordered k b co)) refl u
+  of_command (Ok (Some co)) e u = of_questions co (ap (ordered_by b) e) (first_no (questions g k b co) (order_for k b co)) refl u
 
   pub kept_good : Told (order_by g k b (commanded (rising w b.bits)))
   kept_good = of_command (commanded (rising w b.bits)) refl
@@ -370,16 +370,16 @@ module _ (g : ℕ) (m : AxisMeans) (t : Trace) (h : Holds m t) (f : Fit g m) (bi
       (λ l. record { told_is = refl; kept_is = refl; holds = record { rows = λ q. h.rows (or_left _ _ pr); moving = r }; some = λ q. omega (arith, ltb-false _ _ l) })
 
 pub block_good :
-    (g : ℕ) (m : AxisMeans) (t : Trace) (words : List ℤ) (p : ProfileMeans) (ws : List ℤ) → Holds m t → Fit g m → Sound p → UsesOf g m (block_of words) p
-    → Good g (told m t) (BlockCall words) (Replied (answer_of g m (block_of words))) ws (after g m (block_of words) p)
+    (g : ℕ) (m : AxisMeans) (t : Trace) (words : List ℤ) (p : ProfileMeans) (ws : List ℤ) → Holds m t → Fit g m → Sound p → BlockUses g m (block_of words) p
+    → Good g (told m t) (BlockCall words) (Replied (block_answer g m (block_of words))) ws (block_after g m (block_of words) p)
 block_good g m t words p ws h f s u = on (block_of words) refl u
   where
-    on : (r : Result Block Refusal) → block_of words ≡ r → UsesOf g m r p → Good g (told m t) (BlockCall words) (Replied (answer_of g m r)) ws (after g m r p)
+    on : (r : Result Block Refusal) → block_of words ≡ r → BlockUses g m r p → Good g (told m t) (BlockCall words) (Replied (block_answer g m r)) ws (block_after g m r p)
     on (Err why) e v =
         good_by Nothing t.rows refl refl refl (ap (kept_in m.memory.kept) e) refl refl
         (record { rows = h.rows; moving = moves_still m.memory.state m.memory.flags.complete t m.memory.table m.drive.place m.profile h.moving })
         (omega arith) tt tt (λ x y. absurd (both_ways _ x y)) tt
     on (Ok b) e v =
         let k = keeps_word g m t h f b.bits (closes m.memory b.bits) refl in
-        subst (λ a. Good g a (BlockCall words) (Replied (answer_of g m (Ok b))) ws (after g m (Ok b) p)) (sym k.told_is)
+        subst (λ a. Good g a (BlockCall words) (Replied (block_answer g m (Ok b))) ws (block_after g m (Ok b) p)) (sym k.told_is)
         (kept_good g (kept_axis m b) t m.memory.kept words b e k.kept_is k.holds k.some p s ws v)

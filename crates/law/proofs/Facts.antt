@@ -16,7 +16,7 @@ use Rattle.axis.specs.declared.state.Kind.TheVariants.{Single, Blend, Dwell}
 use Rattle.axis.specs.declared.state.State.{State}
 use Rattle.axis.specs.declared.state.State.TheVariants.{Idle, Programming, Running, Pausing, Holding, Held}
 use Rattle.law.specs.Accounts.{Account, Timing, Rest}
-use Rattle.law.specs.Journeys.{Leg, Journey, none, on, pausing, held, along, leg_end, later_ticks}
+use Rattle.law.specs.Journeys.{Leg, Journey, none, on, pausing, held, along, end_of_leg, later_ticks}
 use Rattle.law.specs.Moments.{View}
 
 -- what is to be seen of an axis, in plain words
@@ -59,7 +59,7 @@ legs_from tb run i = map (leg_of_row tb.start run.rates) (drop i tb.rows)
 -- where legs end
 abbrev pub legs_end : ℤ → List Leg → ℤ
 legs_end x [] = x
-legs_end x (l ∷ ls) = legs_end (leg_end x l) ls
+legs_end x (l ∷ ls) = legs_end (end_of_leg x l) ls
 
 -- the legs after the plan in motion, and the pause before each
 abbrev pub later : TableMeans → Kind → List Leg
@@ -101,7 +101,7 @@ pub record IsRunning (t : Trace) (tb : TableMeans) (place : ℤ) (p : ProfileMea
   pub asked : p.asked ≡ 1000 * plan_steps leg.plan
   pub busy : 0 < p.left
   pub aims : Aims kind t.target
-  pub ends : legs_end (leg_end from leg) (later tb kind) ≡ t.target
+  pub ends : legs_end (end_of_leg from leg) (later tb kind) ≡ t.target
   pub timed : Timed t.underway (p.left + later_ticks p.lag (pause_of kind) (later tb kind))
   pub free : t.resting ≡ None
 

@@ -13,7 +13,7 @@ use Rattle.block.specs.declared.refusal.Refusal.TheVariants as refusal
 use Rattle.table.specs.Courses.{is_clear}
 use Rattle.table.specs.Tables.{TableMeans, emptied}
 use Rattle.axis.specs.Axes.{AxisMeans, with_memory}
-use Rattle.axis.specs.EventCalls.{travels, with_level, with_estop, limited, answer_of, after_of}
+use Rattle.axis.specs.EventCalls.{travels, with_level, with_estop, limited, event_answer, event_after}
 use Rattle.axis.specs.Questions.{programs}
 use Rattle.axis.specs.Memories.{MemoryMeans, with_flags, with_levels, with_input}
 use Rattle.axis.specs.Readings.{reading_answer, read_into, status_words}
@@ -119,7 +119,7 @@ module _ (g : ℕ) (m : AxisMeans) (t : Trace) (n : ℤ) (ws : List ℤ) (h : Ho
   k = m.memory
 
   abbrev G : Result Event Refusal → AxisMeans → Type 0
-  G e m' = Good g (told m t) (EventCall n) (Replied (answer_of e)) ws m'
+  G e m' = Good g (told m t) (EventCall n) (Replied (event_answer e)) ws m'
 
   not_set : {b : Bool} → b ≡ false → b ≡ true → {X : Type 0} → X
   not_set x y = absurd (both_ways _ x y)
@@ -170,7 +170,7 @@ module _ (g : ℕ) (m : AxisMeans) (t : Trace) (n : ℤ) (ws : List ℤ) (h : Ho
   trips f true c = keeps event.Trip f (ap not c) k.levels refl
   trips f false c = stops event.Trip f (ap not c) (with_trip m.drive true) refl k refl refl refl refl refl
 
-  on_event : (e : Result Event Refusal) → event_of n ≡ e → G e (after_of m e)
+  on_event : (e : Result Event Refusal) → event_of n ≡ e → G e (event_after m e)
   on_event (Err why) f =
       good_by Nothing t.rows (ap (event_effect (told m t)) f) refl refl refl (ap (levels_by k.levels) f) refl (quiet m t h) (omega arith) tt tt (λ a b. absurd (both_ways _ a b)) tt
   on_event (Ok (event.Limit way true)) f = limits way f (is_clear k.levels.limits way) refl
@@ -181,5 +181,5 @@ module _ (g : ℕ) (m : AxisMeans) (t : Trace) (n : ℤ) (ws : List ℤ) (h : Ho
 
 pub event_good :
     (g : ℕ) (m : AxisMeans) (t : Trace) (n : ℤ) (ws : List ℤ) → Holds m t
-    → Good g (told m t) (EventCall n) (Replied (answer_of (event_of n))) ws (after_of m (event_of n))
+    → Good g (told m t) (EventCall n) (Replied (event_answer (event_of n))) ws (event_after m (event_of n))
 event_good g m t n ws h = on_event g m t n ws h (event_of n) refl

@@ -24,7 +24,7 @@ use Rattle.law.proofs.Goods.{Good}
 use Rattle.law.proofs.Legs.{some_steps}
 use Rattle.law.specs.Accounts.{Account, Moves, ordered, effect_of, kept_after, levels_after, start_after, rows_after, row_leg, sum_of}
 use Rattle.law.specs.Calls.{Call, Replied}
-use Rattle.law.specs.Journeys.{Leg, on, leg_end, set_out, later_ticks, move_ticks}
+use Rattle.law.specs.Journeys.{Leg, on, end_of_leg, begun_journey, later_ticks, move_ticks}
 use Rattle.law.specs.Law.{CallLaw, Stands}
 
 -- the account of an axis whose kept word was another before the block
@@ -53,7 +53,7 @@ some_left p n l a z s = on p.left refl
 -- a move that sets out along legs, of which the first is begun
 pub move_good :
     (g : ℕ) (k : AxisMeans) (t : Trace) (w : ℕ) (c : Call) (ws : List ℤ) (to : ℤ) (leg : Leg) (ls legs : List Leg) (pause : ℕ) (kind : Kind) (p : ProfileMeans)
-    → Holds k t → legs ≡ leg ∷ ls → later k.memory.table kind ≡ ls → pause_of kind ≡ pause → Aims kind to → legs_end (leg_end k.drive.place leg) ls ≡ to
+    → Holds k t → legs ≡ leg ∷ ls → later k.memory.table kind ≡ ls → pause_of kind ≡ pause → Aims kind to → legs_end (end_of_leg k.drive.place leg) ls ≡ to
     → Begun k.profile leg.plan p → Sound p
     → effect_of (older k t w) c (Replied (Ok tt)) ≡ Moves to (record { legs = legs; pause = pause })
     → rows_after t.rows (ordered w c true) ≡ t.rows
@@ -75,12 +75,12 @@ move_good g k t w c ws to leg ls legs pause kind p h is_legs is_later is_pause a
       moving = record {
         from = k.drive.place;
         leg = leg;
-        journey = ap (λ x. set_out k.drive.place x pause) is_legs ∙ (ap (λ x. on k.drive.place leg x pause) (sym is_later) ∙ ap (λ x. on k.drive.place leg (later k.memory.table kind) x) (sym is_pause));
+        journey = ap (λ x. begun_journey k.drive.place x pause) is_legs ∙ (ap (λ x. on k.drive.place leg x pause) (sym is_later) ∙ ap (λ x. on k.drive.place leg (later k.memory.table kind) x) (sym is_pause));
         leg_is = record { way_is = refl; plan_is = plan; keeps_up = rw gone (sym (signed_stays leg.way k.drive.place)) };
         asked = asked;
         busy = busy;
         aims = aims;
-        ends = ap (legs_end (leg_end k.drive.place leg)) is_later ∙ ends;
+        ends = ap (legs_end (end_of_leg k.drive.place leg)) is_later ∙ ends;
         timed =
             (let more : later_ticks p.lag (pause_of kind) (later k.memory.table kind) ≡ later_ticks p.lag pause ls = ap (λ x. later_ticks p.lag x (later k.memory.table kind)) is_pause ∙ ap (later_ticks p.lag pause) is_later in
             let all : move_ticks p.lag pause legs ≡ plan_ticks leg.plan p.lag + later_ticks p.lag pause ls = ap (move_ticks p.lag pause) is_legs in
@@ -99,7 +99,7 @@ one_row r = omega arith
 leads : (from d : ℤ) → from +ℤ signed (toward (pos 0) d) (nat_abs d) ≡ from +ℤ d
 leads from d = cond_both (lt_z d (pos 0)) Ccw Cw (λ way. from +ℤ signed way (nat_abs d) ≡ from +ℤ d) (λ e. grind (arith, ints)) (λ e. grind (arith, ints))
 
-row_leads : (S : ℕ) (b : Block) (x : ℤ) (s : Segment) → leg_end x (row_leg S b s) ≡ x +ℤ s.distance
+row_leads : (S : ℕ) (b : Block) (x : ℤ) (s : Segment) → end_of_leg x (row_leg S b s) ≡ x +ℤ s.distance
 row_leads S b x s = ap (λ n. x +ℤ signed (way_of s) n) (one_row (row_of s)) ∙ leads x s.distance
 
 no_steps : (x : ℤ) → x ≡ x +ℤ pos 0
@@ -107,7 +107,7 @@ no_steps x = grind (arith, ints)
 
 pub rows_end : (S : ℕ) (b : Block) (x : ℤ) (ss : List Segment) → legs_end x (map (row_leg S b) ss) ≡ x +ℤ sum_of ss
 rows_end S b x [] = no_steps x
-rows_end S b x (s ∷ ss) = rows_end S b (leg_end x (row_leg S b s)) ss ∙ (ap (λ z. z +ℤ sum_of ss) (row_leads S b x s) ∙ +ℤ_assoc x s.distance (sum_of ss))
+rows_end S b x (s ∷ ss) = rows_end S b (end_of_leg x (row_leg S b s)) ss ∙ (ap (λ z. z +ℤ sum_of ss) (row_leads S b x s) ∙ +ℤ_assoc x s.distance (sum_of ss))
 
 -- a single leg ends at its target
 pub single_ends : (x to : ℤ) (plan : PlanMeans) (v : ℕ) → plan.rows ≡ record { steps = distance x to; speed = v } ∷ [] → x +ℤ signed (toward x to) (plan_steps plan) ≡ to

@@ -12,7 +12,7 @@ use Rattle.table.specs.TablePlans.{row_at, row_plan}
 use Rattle.table.specs.Tables.{TableMeans}
 use Rattle.axis.specs.Axes.{AxisMeans, with_memory}
 use Rattle.axis.specs.Memories.{MemoryMeans, with_state}
-use Rattle.axis.specs.Stops.{stopped, completed, row_after, ended, arrived}
+use Rattle.axis.specs.Stops.{stopped, completed, row_after, plan_ended, arrived}
 use Rattle.axis.specs.Carrying.{began, row_travel}
 use Rattle.axis.specs.Ticks.{due, takes_all, sent_to, steps_sent, moved, moved_on, OneTick, FirstTick}
 use Rattle.axis.specs.declared.order.DwellRow.{DwellRow}
@@ -25,7 +25,7 @@ use Rattle.law.proofs.Goods.{Good}
 use Rattle.law.proofs.Legs.{some_steps, legs_next, legs_over, sent_there, takes_it, few}
 use Rattle.law.specs.Accounts.{Timing, Rest, account_after, one_more, sending, is_over}
 use Rattle.law.specs.Calls.{Tick, Sent}
-use Rattle.law.specs.Journeys.{Leg, Journey, none, on, pausing, held, along, leg_end, later_ticks, on_leg, ticked, fresh, due_in}
+use Rattle.law.specs.Journeys.{Leg, Journey, none, on, pausing, held, along, end_of_leg, later_ticks, on_leg, ticked, fresh, due_in}
 use Rattle.law.specs.Law.{OnPlan, TravelsOn, Arrives, Still, Takes}
 use Rattle.law.specs.Moments.{View}
 
@@ -64,7 +64,7 @@ module _ (g : ℕ) (d : DriveMeans) (x : ℤ) (leg : Leg) (way : Direction) (b p
       rw (n, grows, top) (few b.gone r (fastest b.plan) t.within)
 
   -- at its end it is where it leads
-  pub arrives_at : b.asked ≡ 1000 * plan_steps leg.plan → p.left ≡ 0 → (sent_to g d (due way b.gone p)).place ≡ leg_end x leg
+  pub arrives_at : b.asked ≡ 1000 * plan_steps leg.plan → p.left ≡ 0 → (sent_to g d (due way b.gone p)).place ≡ end_of_leg x leg
   arrives_at a z =
       let e : p.gone / 1000 ≡ plan_steps leg.plan = omega (arith, s.done z, same_asked, a) in
       keeps ∙ ap (λ n. x +ℤ signed leg.way n) e
@@ -97,7 +97,7 @@ pub record OnTick (g : ℕ) (m : AxisMeans) (t : Trace) (way : Direction) (kind 
   pub asked : b.asked ≡ 1000 * plan_steps leg.plan
   pub busy : 0 < b.left
   pub aims : Aims kind t.target
-  pub ends : legs_end (leg_end from leg) (later k.table kind) ≡ t.target
+  pub ends : legs_end (end_of_leg from leg) (later k.table kind) ≡ t.target
   pub timed : Timed t.underway (b.left + later_ticks b.lag (pause_of kind) (later k.table kind))
   pub free : t.resting ≡ None
   pub travels : (v : View) → OnPlan from leg v → TravelsOn t.journey v
@@ -157,7 +157,7 @@ module _ (g : ℕ) (m : AxisMeans) (t : Trace) (way : Direction) (kind : Kind) (
   one : suc p.left ≡ b.left
   one = one_less g m.drive o.from o.leg way b p o.r o.leg_is o.ticks o.sound o.taken o.busy
 
-  at_end : eqb p.left 0 ≡ true → d'.place ≡ leg_end o.from o.leg
+  at_end : eqb p.left 0 ≡ true → d'.place ≡ end_of_leg o.from o.leg
   at_end e = arrives_at g m.drive o.from o.leg way b p o.r o.leg_is o.ticks o.sound o.taken o.asked (eqb-true _ _ e)
 
   journey_next : (z : Bool) → eqb p.left 0 ≡ z → ticked (is_over (plain (after k))) t.journey ≡ on_leg z o.from o.leg (later k.table kind) (pause_of kind)
@@ -191,7 +191,7 @@ module _ (g : ℕ) (m : AxisMeans) (t : Trace) (way : Direction) (kind : Kind) (
         over = refl;
         slows = subst (λ x. Rests x 0) (sym (free_next t.resting n o.free)) tt;
       })
-      (λ x y. (at_end e ∙ subst (λ ls. legs_end (leg_end o.from o.leg) ls ≡ t.target) last o.ends, subst (λ j. Still j (plain (after (completed k)))) (sym over) tt))
+      (λ x y. (at_end e ∙ subst (λ ls. legs_end (end_of_leg o.from o.leg) ls ≡ t.target) last o.ends, subst (λ j. Still j (plain (after (completed k)))) (sym over) tt))
 
 -- a row is over, and not the last
 ends_row :
@@ -215,7 +215,7 @@ ends_row g m t way row b p k ws o e l =
       counts = omega arith;
       legs_are = sym next;
       over = o.sound.done (eqb-true _ _ e);
-      ends = ap (λ z. legs_end z (leg ∷ legs)) home ∙ (ap (legs_end (leg_end o.from o.leg)) (sym next) ∙ o.ends);
+      ends = ap (λ z. legs_end z (leg ∷ legs)) home ∙ (ap (legs_end (end_of_leg o.from o.leg)) (sym next) ∙ o.ends);
       timed = timed_next k.flags.complete t.underway _ _ (omega (arith, one, same, ticks)) o.timed;
       free = free_next t.resting _ o.free;
     })
@@ -228,7 +228,7 @@ pub leg_ticked :
 leg_ticked g m t way kind b p k ws o =
     cond_both (eqb p.left 0) _ _ (P g m t way kind b p k ws o) (ending kind o) (goes_on g m t way kind b p k ws o)
   where
-    ending : (kind : Kind) (o : OnTick g m t way kind b p k) → eqb p.left 0 ≡ true → P g m t way kind b p k ws o (ended k kind)
+    ending : (kind : Kind) (o : OnTick g m t way kind b p k) → eqb p.left 0 ≡ true → P g m t way kind b p k ws o (plan_ended k kind)
     ending (Single target) o e = ends_move g m t way (Single target) b p k ws o e refl
     ending Blend o e = ends_move g m t way Blend b p k ws o e refl
     ending (Dwell row) o e =
@@ -328,7 +328,7 @@ row_tick g m t next p ws h rows l lawful f s taken =
     subst (λ x. Timed t.underway (0 + (plan_ticks (x.0).plan m.profile.lag + later_ticks m.profile.lag next.run.dwell x.1))) (pair_same h.leg leg h.legs legs parts.0 parts.1) h.timed in
     let soon : b.left + later_ticks b.lag next.run.dwell legs ≤ 0 + (plan_ticks leg.plan m.profile.lag + later_ticks m.profile.lag next.run.dwell legs) =
     rw lag (omega (arith, f.begins.soon)) in
-    let ends : legs_end (leg_end m.drive.place leg) legs ≡ t.target = subst (λ x. legs_end (leg_end m.drive.place x.0) x.1 ≡ t.target) (pair_same h.leg leg h.legs legs parts.0 parts.1) h.ends in
+    let ends : legs_end (end_of_leg m.drive.place leg) legs ≡ t.target = subst (λ x. legs_end (end_of_leg m.drive.place x.0) x.1 ≡ t.target) (pair_same h.leg leg h.legs legs parts.0 parts.1) h.ends in
     let o : OnTick g m t way (Dwell next) b p k =
     record {
       r = f.ticks.advance;

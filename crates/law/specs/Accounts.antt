@@ -26,7 +26,7 @@ use Rattle.axis.specs.EventCalls.{with_level, with_estop}
 use Rattle.axis.specs.declared.flags.Levels.{Levels}
 use Rattle.law.specs.Calls.{Call, SetUp, Block as BlockCall, Event as EventCall, Tick, Reading, Answer, accepted, steps_in}
 use Rattle.law.specs.Moments.{View}
-use Rattle.law.specs.Journeys.{Leg, Route, Journey, none, set_out, ticked, braked, move_ticks}
+use Rattle.law.specs.Journeys.{Leg, Route, Journey, none, begun_journey, ticked, braked, move_ticks}
 
 -- the ticks allowed to a move under way, and those passed
 pub record Timing : Type 0 where
@@ -189,24 +189,24 @@ pub data Effect : Type 0 where
   Nothing : Effect
 
 -- a plan with the starting speed in force and a block's rates
-abbrev pub plan_in : ℕ → Block → List Row → PlanMeans
-plan_in S b rows = record { start = S; accel = unsigned_abs b.accel; decel = unsigned_abs b.decel; rows = rows }
+abbrev pub plan_by : ℕ → Block → List Row → PlanMeans
+plan_by S b rows = record { start = S; accel = unsigned_abs b.accel; decel = unsigned_abs b.decel; rows = rows }
 
 -- a single move: one row of the steps from the position to its target
 abbrev pub single : Account → Block → ℤ → Effect
 single a b to =
     let x : ℤ = a.view.position in
-    Moves to (record { legs = record { way = toward x to; plan = plan_in a.start b (record { steps = distance x to; speed = speed_in b } ∷ []) } ∷ []; pause = 0 })
+    Moves to (record { legs = record { way = toward x to; plan = plan_by a.start b (record { steps = distance x to; speed = speed_in b } ∷ []) } ∷ []; pause = 0 })
 
 -- a blend: one plan of exactly the rows of the latest programming, in one direction, signs ignored
 abbrev pub blend : Account → Block → Effect
 blend a b =
     let rows : List Row = map row_of a.rows in
-    Moves (a.view.position +ℤ signed (direction_of b) (steps_of rows)) (record { legs = record { way = direction_of b; plan = plan_in a.start b rows } ∷ []; pause = 0 })
+    Moves (a.view.position +ℤ signed (direction_of b) (steps_of rows)) (record { legs = record { way = direction_of b; plan = plan_by a.start b rows } ∷ []; pause = 0 })
 
 -- the leg of a row: a plan with exactly this row, in its direction
 abbrev pub row_leg : ℕ → Block → Segment → Leg
-row_leg S b s = record { way = way_of s; plan = plan_in S b (row_of s ∷ []) }
+row_leg S b s = record { way = way_of s; plan = plan_by S b (row_of s ∷ []) }
 
 -- a dwell move: such a leg for each row of the latest programming, in order, and the dwell as the pause between two
 abbrev pub dwell : Account → Block → Effect
@@ -279,7 +279,7 @@ is_over v = v.profile.gone == v.profile.asked
 
 -- the journey after a moment before which the position was x
 abbrev pub journey_by : ℤ → Journey → Effect → View → Journey
-journey_by x j (Moves to r) v = set_out x r.legs r.pause
+journey_by x j (Moves to r) v = begun_journey x r.legs r.pause
 journey_by x j Holds v = braked j
 journey_by x j Stops v = none
 journey_by x j (Presets p) v = none

@@ -150,16 +150,16 @@ held_is (pausing u x l ls w) = false
 held_is (held x l) = true
 
 -- whether an example is so, computed by the law's own definitions
-unfoldable pub holds : Example → Bool
-holds (under_way ms a p) = timing_is (told_of ms).underway a p
-holds (at_rest ms a n) = rest_is (told_of ms).resting a n
-holds (in_pause ms u) = waited_is (told_of ms).journey u
-holds (is_held ms) = held_is (told_of ms).journey
-holds (arrives ms x) = let a : Account = told_of ms in a.view.complete && (distance a.view.position (pos x) == 0 && distance a.target (pos x) == 0)
+unfoldable pub example_holds : Example → Bool
+example_holds (under_way ms a p) = timing_is (told_of ms).underway a p
+example_holds (at_rest ms a n) = rest_is (told_of ms).resting a n
+example_holds (in_pause ms u) = waited_is (told_of ms).journey u
+example_holds (is_held ms) = held_is (told_of ms).journey
+example_holds (arrives ms x) = let a : Account = told_of ms in a.view.complete && (distance a.view.position (pos x) == 0 && distance a.target (pos x) == 0)
 
 -- the examples
-unfoldable pub table : List Example
-table =
+unfoldable pub examples : List Example
+examples =
     under_way sent_two 20 0
     ∷ arrives (sent_two ++ two_gone) 2
     ∷ is_held (sent_two ++ two_held)

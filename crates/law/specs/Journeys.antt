@@ -21,8 +21,8 @@ abbrev pub along : ℤ → Leg → ℕ → ℤ
 along x l gone = x +ℤ signed l.way (gone / 1000)
 
 -- where a leg from x ends
-abbrev pub leg_end : ℤ → Leg → ℤ
-leg_end x l = x +ℤ signed l.way (plan_steps l.plan)
+abbrev pub end_of_leg : ℤ → Leg → ℤ
+end_of_leg x l = x +ℤ signed l.way (plan_steps l.plan)
 
 -- the ticks allowed to legs that each come after a pause, over a lag
 abbrev pub later_ticks : ℕ → ℕ → List Leg → ℕ
@@ -46,15 +46,15 @@ pub data Journey : Type 0 where
   held : (from : ℤ) → Leg → Journey
 
 -- a move sets out
-abbrev pub set_out : ℤ → List Leg → ℕ → Journey
-set_out x [] pause = none
-set_out x (l ∷ ls) pause = on x l ls pause
+abbrev pub begun_journey : ℤ → List Leg → ℕ → Journey
+begun_journey x [] pause = none
+begun_journey x (l ∷ ls) pause = on x l ls pause
 
 -- on a leg that is over or goes on: after it comes the pause before the next, and after the last leg nothing
 abbrev pub on_leg : Bool → ℤ → Leg → List Leg → ℕ → Journey
 on_leg false x l ls w = on x l ls w
 on_leg true x l [] w = none
-on_leg true x l (n ∷ ls) w = pausing 0 (leg_end x l) n ls w
+on_leg true x l (n ∷ ls) w = pausing 0 (end_of_leg x l) n ls w
 
 -- a tick after which the profile has gone all that is asked for, or has not; a pause has exactly its ticks, and the tick after them is
 -- the first of the next leg

@@ -6,8 +6,8 @@ use Rattle.profile.specs.Profiles.{ProfileMeans, Sound}
 use Rattle.block.specs.Events.{event_of}
 use Rattle.block.specs.Frames.{block_of}
 use Rattle.axis.specs.Axes.{AxisMeans, powered_up}
-use Rattle.axis.specs.Blocks.{answer_of as block_answer, after as block_after, UsesOf}
-use Rattle.axis.specs.EventCalls.{answer_of as event_answer, after_of as event_after}
+use Rattle.axis.specs.Blocks.{block_answer, block_after, BlockUses}
+use Rattle.axis.specs.EventCalls.{event_answer, event_after}
 use Rattle.axis.specs.Readings.{status_words, reading_answer, read_into}
 use Rattle.axis.specs.Setups.{setup_answer, setup_after}
 use Rattle.axis.specs.Ticks.{tick_steps, tick_after, TickUses}
@@ -35,7 +35,7 @@ axis_after g m (Reading ws) p = m
 -- and of its profile
 abbrev pub CallUses : ℕ → AxisMeans → Call → ProfileMeans → Type 0
 CallUses g m (SetUp n) p = p ≡ m.profile
-CallUses g m (Block ws) p = UsesOf g m (block_of ws) p
+CallUses g m (Block ws) p = BlockUses g m (block_of ws) p
 CallUses g m (Event n) p = p ≡ m.profile
 CallUses g m Tick p = TickUses m.memory.state m p
 CallUses g m (Reading ws) p = p ≡ m.profile

@@ -6,16 +6,16 @@ use Rattle.script.specs.Readings.{line_means}
 use Rattle.longbed.specs.declared.read.Entry.{Entry}
 
 -- `tick n` is n calls, a reading is one, with a buffer of so many sevens, and what is no call of the axis is none
-abbrev pub calls_of : LineMeans → List law.Call
-calls_of Blank = []
-calls_of (Bed bed) = []
-calls_of (At p) = []
-calls_of Tripped = []
-calls_of (Setup v) = law.SetUp v ∷ []
-calls_of (Block ws) = law.Block ws ∷ []
-calls_of (Event e) = law.Event e ∷ []
-calls_of (Tick n) = replicate n law.Tick
-calls_of (Reading n) = law.Reading (replicate n (pos 7)) ∷ []
+abbrev pub calls_in : LineMeans → List law.Call
+calls_in Blank = []
+calls_in (Bed bed) = []
+calls_in (At p) = []
+calls_in Tripped = []
+calls_in (Setup v) = law.SetUp v ∷ []
+calls_in (Block ws) = law.Block ws ∷ []
+calls_in (Event e) = law.Event e ∷ []
+calls_in (Tick n) = replicate n law.Tick
+calls_in (Reading n) = law.Reading (replicate n (pos 7)) ∷ []
 
 -- the words of the buffer that a line asks for
 abbrev pub buffer_of : LineMeans → ℕ
@@ -30,4 +30,4 @@ buffer_of (Tick n) = 0
 buffer_of (Reading n) = n
 
 abbrev pub entry_calls : Entry → List law.Call
-entry_calls e = calls_of (line_means e.line)
+entry_calls e = calls_in (line_means e.line)

@@ -10,8 +10,8 @@ use Rattle.longbed.specs.declared.order.Stage.TheVariants.{Unnamed, Preparing, C
 use Rattle.longbed.specs.declared.order.Start.{Start}
 
 -- a bed whose drive stands at 0, not tripped
-abbrev pub start_of : BedKind → Start
-start_of bed = record { bed = bed; place = pos 0; tripped = false }
+abbrev pub start_on : BedKind → Start
+start_on bed = record { bed = bed; place = pos 0; tripped = false }
 
 -- the same bed, with its drive at a position
 abbrev pub start_at : Start → ℤ → Result Stage OrderFault
@@ -24,7 +24,7 @@ start_tripped s = record { bed = s.bed; place = s.place; tripped = true }
 -- before the bed is named, nothing else may stand
 abbrev pub after_unnamed : LineMeans → Result Stage OrderFault
 after_unnamed Blank = Ok Unnamed
-after_unnamed (Bed bed) = Ok (Preparing (start_of bed))
+after_unnamed (Bed bed) = Ok (Preparing (start_on bed))
 after_unnamed (At p) = Err NoBed
 after_unnamed Tripped = Err NoBed
 after_unnamed (Setup v) = Err NoBed

@@ -1,7 +1,7 @@
 // The calls that the lines of a script make, in their order.
 ghost use Rattle.std.specs.Prelude.{◌≡◌, ◌≤◌, ◌++◌, map, flat_map, length, replicate, pos, All, IfOk};
 ghost use Rattle.law.specs.Calls.{Tick};
-ghost use Rattle.longbed.specs.Callings.{buffer_of, calls_of, entry_calls};
+ghost use Rattle.longbed.specs.Callings.{buffer_of, calls_in, entry_calls};
 ghost use Rattle.runs.specs.Journals.{call_means};
 ghost use Rattle.script.specs.Readings.{line_means};
 
@@ -41,7 +41,7 @@ fn add_calls<'a>(
 ) -> Result<(), AllocError>
     requires long { buffer_of (line_means line.now) ≤ length sevens.now }
     requires sevens { sevens.now ≡ replicate (length sevens.now) (pos 7) }
-    ensures { IfOk result (λ _. map call_means calls.new.items ≡ map call_means calls.old.items ++ calls_of (line_means line.now)) }
+    ensures { IfOk result (λ _. map call_means calls.new.items ≡ map call_means calls.old.items ++ calls_in (line_means line.now)) }
 {
     match line {
         Line::Setup(speed) => calls.push(Call::SetUp(*speed))?,

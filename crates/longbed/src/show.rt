@@ -1,6 +1,6 @@
 // What the program prints of its calls.
 ghost use Rattle.std.specs.Prelude.{◌≡◌, drop, length, take};
-ghost use Rattle.longbed.specs.Callings.{calls_of};
+ghost use Rattle.longbed.specs.Callings.{calls_in};
 ghost use Rattle.script.specs.Readings.{line_means};
 
 use crate::outcome::End;
@@ -48,7 +48,7 @@ impl fmt::Display for Told<'_> {
 
 // How many calls a line makes.
 fn call_count(line: &Line) -> usize
-    ensures { result ≡ length (calls_of (line_means line.now)) }
+    ensures { result ≡ length (calls_in (line_means line.now)) }
 {
     match line {
         Line::Tick(count) => *count as usize,
@@ -78,8 +78,8 @@ fn print_calls(rt: &HostRuntime, entry: &Entry, notes: &[Note]) -> io::Result<()
 
 // The notes of a line's calls, as far as there are any, and those after them.
 fn split_notes<'a>(line: &Line, notes: &'a [Note]) -> (&'a [Note], &'a [Note])
-    ensures own { result.0.now ≡ take (length (calls_of (line_means line.now))) notes.now }
-    ensures after { result.1.now ≡ drop (length (calls_of (line_means line.now))) notes.now }
+    ensures own { result.0.now ≡ take (length (calls_in (line_means line.now))) notes.now }
+    ensures after { result.1.now ≡ drop (length (calls_in (line_means line.now))) notes.now }
 {
     notes.split_at(call_count(line).min(notes.len()))
 }

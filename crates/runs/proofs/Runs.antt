@@ -7,7 +7,7 @@ use Rattle.axis.specs.Axes.{AxisMeans, powered_up}
 use Rattle.law.proofs.Lawfulness.{lawful}
 use Rattle.law.specs.Moments.{Moment}
 use Rattle.law.specs.Runs.{Step, Run, none, more}
-use Rattle.runs.specs.Journals.{call_means, entry_means, noted, Made, Ran}
+use Rattle.runs.specs.Journals.{call_means, entry_means, noted, CallMade, Ran}
 use Rattle.runs.specs.declared.call.Call.{Call}
 use Rattle.runs.specs.declared.entry.Entry.{Entry}
 
@@ -24,7 +24,7 @@ module _ (g : ℕ) (d : DriveMeans) (p : ProfileMeans) (l : 1 ≤ g) (h : g ≤ 
   pub ran_none : Ran g d p [] [] (powered_up d p)
   ran_none = record { moments = []; run = none; calls = refl; journal = refl; lawful = tt }
 
-  pub ran_more : (cs : List Call) (es es' : List Entry) (m m' : AxisMeans) (c : Call) → Ran g d p cs es m → Made g m es (call_means c) m' es' → Ran g d p (cs ++ c ∷ []) es' m'
+  pub ran_more : (cs : List Call) (es es' : List Entry) (m m' : AxisMeans) (c : Call) → Ran g d p cs es m → CallMade g m es (call_means c) m' es' → Ran g d p (cs ++ c ∷ []) es' m'
   ran_more cs es es' m m' c r n =
       let os = r.moments ++ n.moment ∷ [] in
       let run = run_more r.run n.step in

@@ -54,7 +54,7 @@ pub record Shown (m : AxisMeans) (r : law.Answer) (e : Noted) : Type 0 where
   pub sound : Sound m.profile
 
 -- a call that was made: one step of the axis, and one entry after those already there
-pub record Made (g : ℕ) (m : AxisMeans) (es : List Entry) (c : law.Call) (m' : AxisMeans) (es' : List Entry) : Type 0 where
+pub record CallMade (g : ℕ) (m : AxisMeans) (es : List Entry) (c : law.Call) (m' : AxisMeans) (es' : List Entry) : Type 0 where
   pub moment : Moment
   pub call : moment.call ≡ c
   pub step : Step g m moment m'

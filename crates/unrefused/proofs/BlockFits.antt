@@ -24,7 +24,7 @@ use Rattle.axis.proofs.Readiness.{Sane, within, some_way, ready}
 use Rattle.unrefused.proofs.RowFits.{empty_fits, added_fits, closed_fits, tops_slow, row_begins, row_leaves}
 use Rattle.axis.specs.Axes.{AxisMeans, with_memory}
 use Rattle.axis.specs.Memories.{MemoryMeans, with_table, with_state, with_kept}
-use Rattle.axis.specs.Blocks.{closes, kept_by, finished, UsesBy, kept_axis, order_of, after, UsesOf}
+use Rattle.axis.specs.Blocks.{closes, kept_by, finished, UsesBy, kept_axis, block_order, block_after, BlockUses}
 use Rattle.axis.specs.Carrying.{began, go_travel, held, carried, Uses, Ready}
 use Rattle.unrefused.specs.Fits.{InPause, Underway, Fit}
 use Rattle.axis.specs.Questions.{programs, runs, inhibited, speed_fits, rates_fit, pace_fits, distance_fits}
@@ -175,12 +175,12 @@ sane g m l here f =
 
 pub block_fits :
     (g : ℕ) → g ≤ 200 → (m : AxisMeans) (b : Result Block Refusal) (p : ProfileMeans) → is_position m.drive.place ≡ true → Fit g m
-    → UsesOf g m b p → Fit g (after g m b p)
+    → BlockUses g m b p → Fit g (block_after g m b p)
 block_fits g l m (Ok b) p here f u =
     let k = kept_axis m b in
     let fit = kept_fits g m b.bits f in
     let s = sane g k l here fit in
-    finished_fits g k fit here (order_of g m b) p
+    finished_fits g k fit here (block_order g m b) p
     (λ o e. (
       order_follows g k (Ready k) (ready g k s) b (commanded (rising m.memory.kept b.bits)) o e,
       order_follows g k (Asked g k) (are_asked g k) b (commanded (rising m.memory.kept b.bits)) o e,

@@ -12,7 +12,7 @@ use Rattle.table.specs.Tables.{TableMeans}
 use Rattle.axis.proofs.Readiness.{within}
 use Rattle.unrefused.proofs.RowFits.{empty_fits}
 use Rattle.axis.specs.Axes.{AxisMeans, powered_up}
-use Rattle.axis.specs.EventCalls.{travels, with_level, with_estop, limited, event_after, after_of}
+use Rattle.axis.specs.EventCalls.{travels, with_level, with_estop, limited, heeded, event_after}
 use Rattle.unrefused.specs.Fits.{TableFits, InMotion, Underway, Fit}
 use Rattle.axis.specs.Setups.{is_idle, start_fits, configured, misconfigured, setup_after}
 use Rattle.axis.specs.Memories.{MemoryMeans, with_state, with_flags, with_levels, with_input}
@@ -78,7 +78,7 @@ module _ (g : ℕ) where
     limit_fits : (k : MemoryMeans) → Kept d p k → Kept d p (limited k)
     limit_fits k f = either (Kept d p) (travels k.state) (halted_by_input k) k (halt_fits k f.table) f
 
-  event_fits : (m : AxisMeans) (e : Event) → Fit g m → Fit g (event_after m e)
+  event_fits : (m : AxisMeans) (e : Event) → Fit g m → Fit g (heeded m e)
   event_fits m (event.Limit way true) f =
       let on = with_levels m.memory (with_level m.memory.levels way true) in
       either (Kept m.drive m.profile) (is_clear m.memory.levels.limits way) (limited on) m.memory
@@ -95,7 +95,7 @@ module _ (g : ℕ) where
       let P : AxisMeans → Type 0 = λ x. Fit g x in
       either P m.drive.tripped m _ f (stop_fits (with_trip m.drive true) m.profile m.memory f.table)
 
-  pub code_fits : (m : AxisMeans) (e : Result Event Refusal) → Fit g m → Fit g (after_of m e)
+  pub code_fits : (m : AxisMeans) (e : Result Event Refusal) → Fit g m → Fit g (event_after m e)
   code_fits m (Ok e) f = event_fits m e f
   code_fits m (Err why) f = f
 

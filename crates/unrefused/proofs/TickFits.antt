@@ -13,7 +13,7 @@ use Rattle.axis.specs.Axes.{AxisMeans, with_memory}
 use Rattle.axis.specs.Memories.{MemoryMeans, with_state}
 use Rattle.axis.specs.Carrying.{began, row_travel}
 use Rattle.unrefused.specs.Fits.{TableFits, InMotion, end_of, Afterwards, InPause, Underway, Fit, UnrefusedIn, Unrefused}
-use Rattle.axis.specs.Stops.{stopped, ended, arrived}
+use Rattle.axis.specs.Stops.{stopped, plan_ended, arrived}
 use Rattle.axis.specs.Ticks.{due, takes_all, moved, moved_on, is_plan, row_begun, OneTick, FirstTick, tick_after, TickUses}
 use Rattle.axis.specs.declared.order.DwellRow.{DwellRow}
 use Rattle.axis.specs.declared.state.Kind.{Kind}
@@ -25,7 +25,7 @@ use Rattle.axis.specs.declared.state.Travel.{Travel}
 module _ (g : ℕ) where
   -- the end of a plan, with the drive at its end
   module _ (d : DriveMeans) (p : ProfileMeans) (k : MemoryMeans) where
-    ended_fits : (kind : Kind) → TableFits g k.table → d.tripped ≡ false → Afterwards k.table d.place kind → Kept g d p (ended k kind)
+    ended_fits : (kind : Kind) → TableFits g k.table → d.tripped ≡ false → Afterwards k.table d.place kind → Kept g d p (plan_ended k kind)
     ended_fits (Single target) f u a = record { table = f; underway = tt }
     ended_fits Blend f u a = record { table = f; underway = tt }
     ended_fits (Dwell row) f u a =

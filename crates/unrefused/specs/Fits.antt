@@ -15,9 +15,9 @@ use Rattle.table.specs.TablePlans.{row_plan}
 use Rattle.table.specs.Tables.{TableMeans}
 use Rattle.table.specs.declared.segment.Segment.{Segment}
 use Rattle.axis.specs.Axes.{AxisMeans, powered_up}
-use Rattle.axis.specs.Blocks.{after, UsesOf}
+use Rattle.axis.specs.Blocks.{block_after, BlockUses}
 use Rattle.axis.specs.Carrying.{row_travel}
-use Rattle.axis.specs.EventCalls.{after_of}
+use Rattle.axis.specs.EventCalls.{event_after}
 use Rattle.axis.specs.Setups.{setup_after}
 use Rattle.axis.specs.Stops.{row_after}
 use Rattle.axis.specs.Ticks.{due, takes_all, is_plan, tick_after, TickUses}
@@ -108,10 +108,10 @@ Unrefused g m p = UnrefusedIn g m.memory.state m p
 pub record TakesAll (g : ℕ) : Type 0 where
   pub begins : (d : DriveMeans) (p : ProfileMeans) → Fit g (powered_up d p)
   pub set_up : (m : AxisMeans) (n : ℤ) → Fit g m → Fit g (setup_after g m n)
-  pub event : (m : AxisMeans) (e : Result Event Refusal) → Fit g m → Fit g (after_of m e)
+  pub event : (m : AxisMeans) (e : Result Event Refusal) → Fit g m → Fit g (event_after m e)
   pub block :
-      (m : AxisMeans) (b : Result Block Refusal) (p : ProfileMeans) → is_position m.drive.place ≡ true → Fit g m → UsesOf g m b p
-      → Fit g (after g m b p)
+      (m : AxisMeans) (b : Result Block Refusal) (p : ProfileMeans) → is_position m.drive.place ≡ true → Fit g m → BlockUses g m b p
+      → Fit g (block_after g m b p)
   pub tick :
       (m : AxisMeans) (p : ProfileMeans) → is_position m.drive.place ≡ true → Fit g m → Sound p → TickUses m.memory.state m p
       → Unrefused g m p × Fit g (tick_after g m.memory.state m p)

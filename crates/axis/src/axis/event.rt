@@ -2,7 +2,7 @@
 ghost use Rattle.std.specs.Prelude.{◌≡◌, false, is_ok};
 ghost use Rattle.block.specs.Events.{event_of};
 ghost use Rattle.axis.specs.Axes.{meaning};
-ghost use Rattle.axis.specs.EventCalls.{event_after, calls_drive, answer_of, after_of, calls_of};
+ghost use Rattle.axis.specs.EventCalls.{heeded, trips_drive, event_answer, event_after, event_calls};
 
 use crate::axis::Axis;
 use crate::state::State;
@@ -13,8 +13,8 @@ use profile::traits::Profile;
 
 impl<D: Drive, P: Profile> Axis<D, P> {
     fn trip(&mut self)
-        ensures after { meaning D.Drive P.Profile self.new ≡ event_after (meaning D.Drive P.Profile self.old) Event.Trip }
-        ensures drive { calls_drive (meaning D.Drive P.Profile self.old) Event.Trip ≡ false → self.new.drive ≡ self.old.drive }
+        ensures after { meaning D.Drive P.Profile self.new ≡ heeded (meaning D.Drive P.Profile self.old) Event.Trip }
+        ensures drive { trips_drive (meaning D.Drive P.Profile self.old) Event.Trip ≡ false → self.new.drive ≡ self.old.drive }
         ensures profile { self.new.profile ≡ self.old.profile }
     {
         if !self.drive.tripped() {
@@ -24,8 +24,8 @@ impl<D: Drive, P: Profile> Axis<D, P> {
     }
 
     fn heed(&mut self, event: Event)
-        ensures after { meaning D.Drive P.Profile self.new ≡ event_after (meaning D.Drive P.Profile self.old) event }
-        ensures drive { calls_drive (meaning D.Drive P.Profile self.old) event ≡ false → self.new.drive ≡ self.old.drive }
+        ensures after { meaning D.Drive P.Profile self.new ≡ heeded (meaning D.Drive P.Profile self.old) event }
+        ensures drive { trips_drive (meaning D.Drive P.Profile self.old) event ≡ false → self.new.drive ≡ self.old.drive }
         ensures profile { self.new.profile ≡ self.old.profile }
     {
         match (&self.memory.state, event) {
@@ -48,10 +48,10 @@ impl<D: Drive, P: Profile> Axis<D, P> {
 
     // One event, by its code.
     pub fn event(&mut self, code: i32) -> Result<(), Refusal>
-        ensures answer { result ≡ answer_of (event_of code) }
-        ensures after { meaning D.Drive P.Profile self.new ≡ after_of (meaning D.Drive P.Profile self.old) (event_of code) }
+        ensures answer { result ≡ event_answer (event_of code) }
+        ensures after { meaning D.Drive P.Profile self.new ≡ event_after (meaning D.Drive P.Profile self.old) (event_of code) }
         ensures unknown { is_ok (event_of code) ≡ false → self.new ≡ self.old }
-        ensures drive { calls_of (meaning D.Drive P.Profile self.old) (event_of code) ≡ false → self.new.drive ≡ self.old.drive }
+        ensures drive { event_calls (meaning D.Drive P.Profile self.old) (event_of code) ≡ false → self.new.drive ≡ self.old.drive }
         ensures profile { self.new.profile ≡ self.old.profile }
     {
         let event = Event::try_from(code)?;

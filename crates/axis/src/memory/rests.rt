@@ -1,7 +1,7 @@
 // How the axis comes to rest.
 ghost use Rattle.std.specs.Prelude.{◌≡◌};
 ghost use Rattle.axis.specs.Memories.{memory_means};
-ghost use Rattle.axis.specs.Stops.{stopped, completed, rested, eased, ended, waited, gone_on, halted_by_input};
+ghost use Rattle.axis.specs.Stops.{stopped, completed, rested, eased, plan_ended, waited, kept_going, halted_by_input};
 
 use super::Memory;
 use crate::order::DwellRow;
@@ -59,7 +59,7 @@ impl Memory {
 
     // The end of a plan.
     fn end(&mut self, kind: Kind)
-        ensures { memory_means self.new ≡ ended (memory_means self.old) kind }
+        ensures { memory_means self.new ≡ plan_ended (memory_means self.old) kind }
     {
         match kind {
             Kind::Dwell(row) if self.table.has_after(row.index) => {
@@ -86,7 +86,7 @@ impl Memory {
 
     // What moves goes on, with the drive at a place.
     pub(crate) fn go_on(&mut self, done: bool, place: i32)
-        ensures { memory_means self.new ≡ gone_on self.old.state (memory_means self.old) done place }
+        ensures { memory_means self.new ≡ kept_going self.old.state (memory_means self.old) done place }
     {
         match self.state {
             State::Running(travel) if done => self.end(travel.kind),

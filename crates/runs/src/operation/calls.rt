@@ -1,7 +1,7 @@
 // Calls of an axis in operation.
 ghost use Rattle.std.specs.Prelude.{◌≡◌, ◌++◌, ◌∷◌, [], Ok, Err, IfOk, IfErr};
 ghost use Rattle.axis.specs.Axes.{meaning, powered_up};
-ghost use Rattle.runs.specs.Journals.{call_means, answer_means, entry_means, Answered, Shown, Made};
+ghost use Rattle.runs.specs.Journals.{call_means, answer_means, entry_means, Answered, Shown, CallMade};
 
 use crate::call::{Answer, Call};
 use crate::entry::Entry;
@@ -62,7 +62,7 @@ impl<D: Drive, P: Profile> Operation<D, P> {
     // Makes a call and notes it. Room for the note is made first, so that want of memory leaves the axis as it was, and loses nothing of
     // what it did before.
     pub fn make(&mut self, heap: Global, call: Call) -> Result<(), AllocError>
-        ensures made { IfOk result (λ done. Made D.Drive.G (meaning D.Drive P.Profile self.old.axis) self.old.journal.items (call_means call.entry) (meaning D.Drive P.Profile self.new.axis) self.new.journal.items) }
+        ensures made { IfOk result (λ done. CallMade D.Drive.G (meaning D.Drive P.Profile self.old.axis) self.old.journal.items (call_means call.entry) (meaning D.Drive P.Profile self.new.axis) self.new.journal.items) }
         ensures none { IfErr result (λ e. (self.new.axis ≡ self.old.axis) × (self.new.journal.items ≡ self.old.journal.items)) }
     {
         self.journal.reserve(1)?;
