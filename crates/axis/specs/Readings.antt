@@ -144,6 +144,6 @@ is_short ws = nat_lt (length ws) 10
 abbrev pub reading_answer : List ℤ → Result (Unit {0}) Refusal
 reading_answer ws = cond (is_short ws) (Err refusal.ShortBuffer) (Ok tt)
 
--- it stays as it is; any other has the ten words first, and its words past the tenth stay
-abbrev pub read_into : AxisMeans → List ℤ → List ℤ
-read_into m ws = cond (is_short ws) ws (status_words m ++ drop 10 ws)
+-- a buffer with ten words or more has these ten first, and its words past the tenth stay; a shorter one stays as it is
+abbrev pub filled : List ℤ → List ℤ → List ℤ
+filled words buffer = cond (is_short buffer) buffer (words ++ drop 10 buffer)

@@ -16,7 +16,7 @@ use Rattle.axis.specs.Axes.{AxisMeans, with_memory}
 use Rattle.axis.specs.EventCalls.{travels, with_level, with_estop, limited, event_answer, event_after}
 use Rattle.axis.specs.Questions.{programs}
 use Rattle.axis.specs.Memories.{MemoryMeans, with_flags, with_levels, with_input}
-use Rattle.axis.specs.Readings.{reading_answer, read_into, status_words}
+use Rattle.axis.specs.Readings.{reading_answer, filled, status_words}
 use Rattle.axis.specs.Setups.{is_idle, start_fits, configured, misconfigured, setup_answer, setup_after}
 use Rattle.axis.specs.Stops.{stopped, halted_by_input}
 use Rattle.axis.specs.declared.flags.Levels.{Levels}
@@ -86,7 +86,7 @@ setup_good g m t n ws h = on (is_idle m.memory.state) refl (start_fits g n)
 
 pub reading_good :
     (g : ℕ) (m : AxisMeans) (t : Trace) (buffer : List ℤ) → Holds m t
-    → Good g (told m t) (Reading buffer) (Read (reading_answer buffer) (read_into m buffer)) (status_words m) m
+    → Good g (told m t) (Reading buffer) (Read (reading_answer buffer) (filled (status_words m) buffer)) (status_words m) m
 reading_good g m t buffer h =
     good_by Nothing t.rows refl refl refl refl refl refl (quiet m t h) (omega arith) (record { reads = refl; keeps = refl }) tt (λ x y. absurd (both_ways _ x y)) tt
 

@@ -1,10 +1,10 @@
 -- The law of runs, said of the account of a run (Accounts) and of the moment that comes next. A drive goes at most g steps at once.
-use Rattle.std.specs.Prelude.{◌≡◌, ℕ, ◌<◌, ◌≤◌, true, false, cond, List, [], ◌∷◌, ◌++◌, drop, ℤ, Some, None, Ok, Option, MatchBool, ◌==◌, nat_lt, unsigned_abs}
+use Rattle.std.specs.Prelude.{◌≡◌, ℕ, ◌<◌, ◌≤◌, true, false, List, [], ◌∷◌, ℤ, Some, None, Ok, Option, MatchBool, ◌==◌, nat_lt, unsigned_abs}
 use Rattle.drive.specs.Drives.{DriveMeans, landing}
 use Rattle.profile.specs.Profiles.{fastest, up_div}
 use Rattle.block.specs.Frames.{pair_at}
 use Rattle.block.specs.Pairs.{decoded}
-use Rattle.axis.specs.Readings.{is_short, reading_answer}
+use Rattle.axis.specs.Readings.{reading_answer, filled}
 use Rattle.law.specs.Accounts.{Account, Timing, Rest, Effect, Moves, Holds, Stops, Presets, Ticks, Nothing, effect_of, account_after, is_over}
 use Rattle.law.specs.Calls.{Call, SetUp, Block, Event, Tick, Reading, Answer, Sent, Read, steps_in}
 use Rattle.law.specs.Journeys.{Leg, Journey, none, on, pausing, held, along, due_in}
@@ -40,13 +40,9 @@ pub record TickLaw (g : ℕ) (a : Account) (r : Answer) (v : View) : Type 0 wher
   pub taken : Takes g a.view.drive (due_in a.journey a.view.profile.gone v.profile.gone) v.drive.place
   pub travels : TravelsOn a.journey v
 
--- a buffer of ten words or more, filled with the words that are to be seen; a shorter one stays
-abbrev pub read_words : List ℤ → List ℤ → List ℤ
-read_words words buffer = cond (is_short buffer) buffer (words ++ drop 10 buffer)
-
 -- A reading answers the words that are to be seen, and changes nothing.
 pub record ReadingLaw (a : Account) (buffer : List ℤ) (r : Answer) (words : List ℤ) (v : View) : Type 0 where
-  pub reads : r ≡ Read (reading_answer buffer) (read_words words buffer)
+  pub reads : r ≡ Read (reading_answer buffer) (filled words buffer)
   pub keeps : v ≡ a.view
 
 -- what the law says of a tick and of a reading; of the other calls it says nothing here

@@ -8,7 +8,7 @@ use Rattle.block.specs.Frames.{block_of}
 use Rattle.axis.specs.Axes.{AxisMeans, powered_up}
 use Rattle.axis.specs.Blocks.{block_answer, block_after, BlockUses}
 use Rattle.axis.specs.EventCalls.{event_answer, event_after}
-use Rattle.axis.specs.Readings.{status_words, reading_answer, read_into}
+use Rattle.axis.specs.Readings.{status_words, reading_answer, filled}
 use Rattle.axis.specs.Setups.{setup_answer, setup_after}
 use Rattle.axis.specs.Ticks.{tick_steps, tick_after, TickUses}
 use Rattle.law.specs.Accounts.{first_account}
@@ -22,7 +22,7 @@ answer_to g m (SetUp n) p = Replied (setup_answer g m n)
 answer_to g m (Block ws) p = Replied (block_answer g m (block_of ws))
 answer_to g m (Event n) p = Replied (event_answer (event_of n))
 answer_to g m Tick p = Sent (tick_steps g m.memory.state m p)
-answer_to g m (Reading ws) p = Read (reading_answer ws) (read_into m ws)
+answer_to g m (Reading ws) p = Read (reading_answer ws) (filled (status_words m) ws)
 
 -- what it makes of the axis
 abbrev pub axis_after : ℕ → AxisMeans → Call → ProfileMeans → AxisMeans

@@ -1,7 +1,7 @@
 // The reading call.
 ghost use Rattle.std.specs.Prelude.{◌≡◌, ◌≤◌, cond};
 ghost use Rattle.axis.specs.Axes.{meaning};
-ghost use Rattle.axis.specs.Readings.{status_of, inputs_of, status_words, BitsSay, reading_answer, read_into};
+ghost use Rattle.axis.specs.Readings.{status_of, inputs_of, status_words, BitsSay, reading_answer, filled};
 
 use crate::axis::Axis;
 use block::pair::Pair;
@@ -78,7 +78,7 @@ impl<D: Drive, P: Profile> Axis<D, P> {
     // Writes the words of a reading into a buffer, which has to have room for them.
     pub fn reading(&self, buffer: &mut [i16]) -> Result<(), Refusal>
         ensures answer { result ≡ reading_answer buffer.old }
-        ensures words { buffer.new ≡ read_into (meaning D.Drive P.Profile self.now) buffer.old }
+        ensures words { buffer.new ≡ filled (status_words (meaning D.Drive P.Profile self.now)) buffer.old }
     {
         let Some(words) = buffer.first_chunk_mut::<10>() else {
             return Err(Refusal::ShortBuffer);

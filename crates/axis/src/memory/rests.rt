@@ -75,7 +75,7 @@ impl Memory {
         }
     }
 
-    // A tick of a pause counts.
+    // A tick of a pause: one tick less to wait.
     pub(crate) fn wait(&mut self)
         ensures { memory_means self.new ≡ waited (memory_means self.old) }
     {
