@@ -5,10 +5,12 @@ use Rattle.std.proofs.lemmas.Int.{ints}
 use Rattle.std.proofs.lemmas.Simd.{bit_mask_l}
 use Rattle.drive.specs.Positions.{is_position}
 use Rattle.drive.specs.declared.direction.Direction.TheVariants.{Cw, Ccw}
+use Rattle.block.proofs.BitLaws.{set_is}
 use Rattle.block.specs.Pairs.{joined, thousands, over, decoded}
+use Rattle.block.specs.Words.{is_set}
 use Rattle.axis.specs.Axes.{AxisMeans}
 use Rattle.axis.specs.Questions.{programs, is_held}
-use Rattle.axis.specs.Readings.{flag, bit, is_moving, moves, accelerates, decelerates, waits, status_of, inputs_of, status_bits, input_bits, BitsSay}
+use Rattle.axis.specs.Readings.{flag, is_moving, moves, accelerates, decelerates, waits, status_of, inputs_of, status_bits, input_bits, BitsSay}
 
 weighs : (n : ℕ) (on : Bool) → cond on n 0 ≡ n * cond on 1 0
 weighs n true = omega arith
@@ -19,8 +21,8 @@ tells true = refl
 tells false = refl
 
 -- a word put together of its bits, the lowest first, has these bits
-bit_of_word : (bs : List Bool) (k : ℕ) → bit k (mask_l bs) ≡ get_or bs k false
-bit_of_word bs k = ap (λ n. n == 1) (bit_mask_l bs k) ∙ tells (get_or bs k false)
+bit_of_word : (bs : List Bool) (k : ℕ) → is_set k (mask_l bs) ≡ get_or bs k false
+bit_of_word bs k = set_is k (mask_l bs) ∙ ap (λ n. n == 1) (bit_mask_l bs k) ∙ tells (get_or bs k false)
 
 -- the flags of bits 14 to 0, of which bit 4 is always off, make such a word
 flags_word :
@@ -31,13 +33,13 @@ flags_word b13 b12 b11 b10 b9 b8 b7 b6 b5 b3 b2 b1 b0 =
     omega (arith, weighs 8192 b13, weighs 4096 b12, weighs 2048 b11, weighs 1024 b10, weighs 512 b9, weighs 256 b8, weighs 128 b7, weighs 64 b6, weighs 32 b5, weighs 8 b3, weighs 4 b2, weighs 2 b1)
 
 -- each bit of word 0 is its flag; bit 4 and those past bit 14 are 0
-pub status_read : (m : AxisMeans) (k : ℕ) → bit k (status_of m) ≡ get_or (status_bits m) k false
+pub status_read : (m : AxisMeans) (k : ℕ) → is_set k (status_of m) ≡ get_or (status_bits m) k false
 status_read m k =
-    ap (bit k)
+    ap (is_set k)
     (flags_word m.memory.flags.configuration m.memory.flags.command m.memory.flags.input m.memory.flags.invalid (waits m.memory) (programs m.memory.state) m.memory.flags.complete (decelerates m.memory) (accelerates m.memory) (not (is_moving m.memory.state)) (is_held m.memory.state) (moves Ccw m.memory.state) (moves Cw m.memory.state))
     ∙ bit_of_word (status_bits m) k
 
-pub complete_read : (m : AxisMeans) → bit 7 (status_of m) ≡ m.memory.flags.complete
+pub complete_read : (m : AxisMeans) → is_set 7 (status_of m) ≡ m.memory.flags.complete
 complete_read m = status_read m 7
 
 inputs_word :
@@ -45,9 +47,9 @@ inputs_word :
 inputs_word b7 b2 b1 b0 = omega (arith, weighs 128 b7, weighs 4 b2, weighs 2 b1)
 
 -- each bit of word 1 is its flag; all others are 0
-pub inputs_read : (m : AxisMeans) (k : ℕ) → bit k (inputs_of m) ≡ get_or (input_bits m) k false
+pub inputs_read : (m : AxisMeans) (k : ℕ) → is_set k (inputs_of m) ≡ get_or (input_bits m) k false
 inputs_read m k =
-    ap (bit k) (inputs_word m.drive.tripped m.memory.levels.estop m.memory.levels.limits.ccw m.memory.levels.limits.cw)
+    ap (is_set k) (inputs_word m.drive.tripped m.memory.levels.estop m.memory.levels.limits.ccw m.memory.levels.limits.cw)
     ∙ bit_of_word (input_bits m) k
 
 -- the two words of the position, taken together, are the position

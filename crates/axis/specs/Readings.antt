@@ -1,5 +1,5 @@
 -- What a reading tells of the axis: ten words, of which the last six are 0.
-use Rattle.std.specs.Prelude.{◌≡◌, ℕ, ◌+◌, ◌/◌, ◌%◌, ◌^◌, Bool, true, false, cond, not, ◌&&◌, List, [], ◌∷◌, ◌++◌, drop, get_or, length, ℤ, pos, Ok, Err, Result, ◌==◌, nat_lt}
+use Rattle.std.specs.Prelude.{◌≡◌, ℕ, ◌+◌, ◌^◌, Bool, true, false, cond, not, ◌&&◌, List, [], ◌∷◌, ◌++◌, drop, get_or, length, ℤ, pos, Ok, Err, Result, nat_lt}
 use Rattle.drive.specs.declared.direction.Direction.{Direction}
 use Rattle.drive.specs.declared.direction.Direction.TheVariants.{Cw, Ccw}
 use Rattle.block.specs.Commands.{bit_of}
@@ -18,10 +18,6 @@ use Rattle.axis.specs.declared.state.State.TheVariants.{Idle, Programming, Runni
 -- what bit k adds to a word, where it is on
 abbrev pub flag : ℕ → Bool → ℕ
 flag k on = cond on (2 ^ k) 0
-
--- whether bit k of a word is set
-abbrev pub bit : ℕ → ℕ → Bool
-bit k w = (w / 2 ^ k) % 2 == 1
 
 -- in motion: running outside a pause, or holding
 abbrev pub is_moving : State → Bool
@@ -118,8 +114,8 @@ input_bits m =
 
 -- What the two words say bit by bit: each bit is its flag, and those past the flags are 0.
 pub record BitsSay (m : AxisMeans) : Type 0 where
-  pub status : (k : ℕ) → bit k (status_of m) ≡ get_or (status_bits m) k false
-  pub inputs : (k : ℕ) → bit k (inputs_of m) ≡ get_or (input_bits m) k false
+  pub status : (k : ℕ) → is_set k (status_of m) ≡ get_or (status_bits m) k false
+  pub inputs : (k : ℕ) → is_set k (inputs_of m) ≡ get_or (input_bits m) k false
 
 -- the status, the inputs, the pair of the position, and six words that are 0
 abbrev pub status_words : AxisMeans → List ℤ

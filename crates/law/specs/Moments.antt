@@ -4,7 +4,7 @@ use Rattle.drive.specs.Drives.{DriveMeans}
 use Rattle.profile.specs.Profiles.{ProfileMeans}
 use Rattle.block.specs.Frames.{word_at, bits_at}
 use Rattle.block.specs.Pairs.{joined}
-use Rattle.axis.specs.Readings.{bit}
+use Rattle.block.specs.Words.{is_set}
 use Rattle.law.specs.Calls.{Call, Answer}
 
 -- the ten status words, the drive and the profile
@@ -28,4 +28,4 @@ pub record View : Type 0 where
 
 -- the position is the pair in words 2 and 3, and Move_Complete bit 7 of word 0
 unfoldable pub view_of : Seen → View
-view_of s = record { position = joined (word_at s.words 2) (word_at s.words 3); complete = bit 7 (bits_at s.words 0); drive = s.drive; profile = s.profile }
+view_of s = record { position = joined (word_at s.words 2) (word_at s.words 3); complete = is_set 7 (bits_at s.words 0); drive = s.drive; profile = s.profile }
