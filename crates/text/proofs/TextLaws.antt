@@ -1,10 +1,10 @@
 -- Words and comments of a text, by the places of bytes in it. Assumes nothing.
-use Rattle.std.proofs.Common.{◌≡◌, ℕ, ◌+◌, ◌<◌, Bool, true, false, not, cond, ltb, eqb, List, [], ◌∷◌, ◌++◌, length, take, drop, Some, None, sym, refl, ap, ◌∙◌, arith, one-add, position, unwrap_or}
-use Rattle.std.specs.List.{position_or_len}
+use Rattle.std.proofs.Common.{◌≡◌, ℕ, ◌+◌, ◌<◌, Bool, true, false, not, ◌&&◌, cond, ltb, eqb, List, [], ◌∷◌, ◌++◌, length, take, drop, Some, None, sym, refl, ap, ◌∙◌, arith, one-add, position, unwrap_or}
+use Rattle.std.specs.List.{position_or_len, list_all}
 use Rattle.std.proofs.lemmas.List.{append-nil, append_assoc, take_all}
 use Rattle.std.proofs.lemmas.List.Sums.{prefix_len-le-length}
-use Rattle.std.proofs.lemmas.Bool.{cond_both, ltb-true, ltb-false}
-use Rattle.text.specs.Texts.{uncommented, is_blank, is_word_byte, ended, words_from, words_of}
+use Rattle.std.proofs.lemmas.Bool.{cond_both, ltb-true, ltb-false, false≢true}
+use Rattle.text.specs.Texts.{uncommented, is_blank, is_word_byte, ended, words_from, words_of, WordsDivide}
 
 -- where an element that passes stands first
 module _ {A : Type 0} (p : A → Bool) (s : List A) where
@@ -81,3 +81,27 @@ word_taken s n m begins ends =
     let at = place_some is_word_byte s n begins in
     let parts : take m (drop n s) ∷ words_of (drop m (drop n s)) ≡ first_then (drop n s) = cc in
     parts ∙ ap (λ i. first_then (drop i s)) at.0 ∙ sym (words_some s (omega (arith, at.0, at.1)))
+
+-- what stands behind the run that ends
+ended_more : (run : List ℕ) (ws vs : List (List ℕ)) → ended run (ws ++ vs) ≡ ended run ws ++ vs
+ended_more [] ws vs = refl
+ended_more (b ∷ bs) ws vs = refl
+
+divided : (run left right : List ℕ) (b : ℕ) → is_blank b ≡ true → words_from run (left ++ b ∷ right) ≡ words_from run left ++ words_of right
+divided run [] right b h = ap (λ t. cond t (ended run (words_of right)) (words_from (run ++ b ∷ []) right)) h ∙ ended_more run [] (words_of right)
+divided run (x ∷ xs) right b h =
+    elim (is_blank x) as (λ t. cond t (ended run (words_of (xs ++ b ∷ right))) (words_from (run ++ x ∷ []) (xs ++ b ∷ right)) ≡ cond t (ended run (words_of xs)) (words_from (run ++ x ∷ []) xs) ++ words_of right) [
+      | true ↦ ap (ended run) (divided [] xs right b h) ∙ ended_more run (words_of xs) (words_of right)
+      | false ↦ divided (run ++ x ∷ []) xs right b h
+    ]
+
+one_word : (run s : List ℕ) → list_all is_word_byte s ≡ true → words_from run s ≡ ended (run ++ s) []
+one_word run [] = λ h. ap (λ l. ended l []) (sym (append-nil run))
+one_word run (b ∷ bs) =
+    elim (is_blank b) as (λ t. (not t && list_all is_word_byte bs) ≡ true → cond t (ended run (words_of bs)) (words_from (run ++ b ∷ []) bs) ≡ ended (run ++ b ∷ bs) []) [
+      | true ↦ λ h. absurd (false≢true h)
+      | false ↦ λ h. simp append_assoc at (one_word (run ++ b ∷ []) bs h)
+    ]
+
+pub words_divide : WordsDivide
+words_divide = record { none = refl; one = λ b bs h. one_word [] (b ∷ bs) h; divided = λ left right b h. divided [] left right b h }

@@ -1,10 +1,11 @@
 -- The first line of a text, by the place of its end. Assumes nothing.
-use Rattle.std.proofs.Common.{◌≡◌, ℕ, ◌+◌, ◌<◌, true, false, not, cond, eqb, List, [], ◌∷◌, ◌++◌, length, take, drop, sym, refl, ap, ◌∙◌, arith, one-add, add-one, Some, None, position}
-use Rattle.std.specs.List.{position_or_len}
+use Rattle.std.proofs.Common.{◌≡◌, ℕ, ◌+◌, ◌<◌, true, false, not, ◌&&◌, cond, eqb, List, [], ◌∷◌, ◌++◌, length, take, drop, sym, refl, ap, ◌∙◌, arith, one-add, add-one, Some, None, position}
+use Rattle.std.specs.List.{position_or_len, list_all}
 use Rattle.std.proofs.lemmas.List.{append-nil, append_assoc}
+use Rattle.std.proofs.lemmas.Bool.{false≢true}
 use Rattle.text.specs.Texts.{ended}
 use Rattle.text.proofs.TextLaws.{place_some, place_none}
-use Rattle.text.specs.TextLines.{lines_from, lines_of}
+use Rattle.text.specs.TextLines.{lines_from, lines_of, is_line_byte, LinesDivide}
 
 abbrev line_len : List ℕ → ℕ
 line_len s = position_or_len (λ b. eqb b 10) s
@@ -35,3 +36,22 @@ line_all line (b ∷ bs) =
 pub line_only : (s : List ℕ) → None ≡ position (λ b. eqb b 10) s → 0 < length s → lines_of s ≡ s ∷ []
 line_only [] h some = absurd (omega arith)
 line_only (b ∷ bs) h some = line_all [] (b ∷ bs) (place_none (λ x. eqb x 10) (b ∷ bs) h)
+
+divided : (run line right : List ℕ) → list_all is_line_byte line ≡ true → lines_from run (line ++ 10 ∷ right) ≡ (run ++ line) ∷ lines_of right
+divided run [] right = λ h. ap (λ l. l ∷ lines_of right) (sym (append-nil run))
+divided run (b ∷ bs) right =
+    elim (eqb b 10) as (λ t. (not t && list_all is_line_byte bs) ≡ true → cond t (run ∷ lines_of (bs ++ 10 ∷ right)) (lines_from (run ++ b ∷ []) (bs ++ 10 ∷ right)) ≡ (run ++ b ∷ bs) ∷ lines_of right) [
+      | true ↦ λ h. absurd (false≢true h)
+      | false ↦ λ h. simp append_assoc at (divided (run ++ b ∷ []) bs right h)
+    ]
+
+one_line : (run s : List ℕ) → list_all is_line_byte s ≡ true → lines_from run s ≡ ended (run ++ s) []
+one_line run [] = λ h. ap (λ l. ended l []) (sym (append-nil run))
+one_line run (b ∷ bs) =
+    elim (eqb b 10) as (λ t. (not t && list_all is_line_byte bs) ≡ true → cond t (run ∷ lines_of bs) (lines_from (run ++ b ∷ []) bs) ≡ ended (run ++ b ∷ bs) []) [
+      | true ↦ λ h. absurd (false≢true h)
+      | false ↦ λ h. simp append_assoc at (one_line (run ++ b ∷ []) bs h)
+    ]
+
+pub lines_divide : LinesDivide
+lines_divide = record { none = refl; one = λ b bs h. one_line [] (b ∷ bs) h; divided = λ line right h. divided [] line right h }

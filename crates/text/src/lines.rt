@@ -1,7 +1,7 @@
 // The lines of a text.
 ghost use Rattle.std.specs.Prelude.{◌≡◌, ◌<◌, ◌∷◌, length};
 ghost use Rattle.std.specs.Iterator.{YieldsFirstRef, item_count};
-ghost use Rattle.text.specs.TextLines.{lines_of, lines_left};
+ghost use Rattle.text.specs.TextLines.{lines_of, LinesDivide, lines_left};
 
 use crate::text::place_of;
 
@@ -23,8 +23,10 @@ pub struct Lines<'a> {
 }
 
 impl<'a> Lines<'a> {
+    #[tactic(auto, using(crate::proofs::TextLineLaws::lines_divide))]
     pub fn of(text: &'a [u8]) -> Lines<'a>
-        ensures { lines_left result ≡ lines_of text.now }
+        ensures left { lines_left result ≡ lines_of text.now }
+        ensures divide { LinesDivide }
     {
         Lines { rest: text }
     }

@@ -2,7 +2,7 @@
 ghost use Rattle.std.specs.Prelude.{◌≡◌, ◌≤◌, ◌==◌, length, position};
 ghost use Rattle.std.specs.Iterator.{YieldsFirstRef, item_count};
 ghost use Rattle.std.specs.List.{position_or_len};
-ghost use Rattle.text.specs.Texts.{uncommented as uncommented_of, is_blank, is_word_byte, words_of, words_left};
+ghost use Rattle.text.specs.Texts.{uncommented as uncommented_of, is_blank, is_word_byte, words_of, WordsDivide, words_left};
 
 const COMMENT: u8 = b'#';
 
@@ -53,8 +53,10 @@ pub struct Words<'a> {
 }
 
 impl<'a> Words<'a> {
+    #[tactic(auto, using(crate::proofs::TextLaws::words_divide))]
     pub fn of(text: &'a [u8]) -> Words<'a>
-        ensures { words_left result ≡ words_of text.now }
+        ensures left { words_left result ≡ words_of text.now }
+        ensures divide { WordsDivide }
     {
         Words { rest: text }
     }
