@@ -2,13 +2,13 @@
 -- a word that is missing, one that does not fit its place, and at last one too many.
 use Rattle.std.specs.Prelude.{ℕ, ℤ, List, [], ◌∷◌, drop, Ok, Err, Result}
 use Rattle.std.specs.Option.{ok_or}
-use Rattle.text.specs.Decimals.{natural_of, number_of, word_of}
+use Rattle.text.specs.Decimals.{natural_of, integer_of, word_of}
 use Rattle.bed.specs.declared.fault.LineFault.{LineFault}
 use Rattle.bed.specs.declared.fault.LineFault.TheVariants.{MissingWord, ExtraWord, NotANumber}
 
 -- a signed number of 32 bits
 abbrev pub integer : List ℕ → Result ℤ LineFault
-integer w = ok_or (number_of w) NotANumber
+integer w = ok_or (integer_of w) NotANumber
 
 -- an unsigned number of 32 bits
 abbrev pub natural : List ℕ → Result ℕ LineFault

@@ -1,6 +1,6 @@
 // Reads a whole script, before any of it is run.
 ghost use Rattle.longbed.specs.Takings.{Taken};
-ghost use Rattle.script.specs.Lines.{line_of};
+ghost use Rattle.script.specs.Lines.{line_said};
 
 use crate::order::{Stage, Start};
 use crate::unread::Unread;
@@ -25,7 +25,7 @@ pub struct Script<'a> {
 
 // What a line says, and the stage after it.
 pub fn take_text(heap: Global, stage: Stage, text: &[u8]) -> Result<(Stage, Line), Unread>
-    ensures { Taken stage (line_of text.now) result }
+    ensures { Taken stage (line_said text.now) result }
 {
     let line = read_line(heap, text)?;
     let after = stage.after(&line)?;

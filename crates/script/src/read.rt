@@ -1,6 +1,6 @@
 // Reads a line of a call script: its first word is the command, and the others are what the command takes.
 ghost use Rattle.std.specs.Prelude.{◌≡◌, vec_items};
-ghost use Rattle.script.specs.Lines.{count_of, block_of, command_of, line_of};
+ghost use Rattle.script.specs.Lines.{count_of, block_words, command_of, line_said};
 ghost use Rattle.script.specs.Readings.{Read, line_means};
 ghost use Rattle.text.specs.Texts.{words_left};
 
@@ -29,7 +29,7 @@ fn count(mut words: Words, unsaid: u32) -> Result<u32, LineFault>
 // The words of a block, as many as there are. A `for` and no `try_collect`: that takes a closure with its result's type written out, to make
 // a `ReadFault` of the word's fault, and a `map_err` for want of memory, which is no plainer than these lines with their two `?`.
 fn block(heap: Global, words: Words) -> Result<Vec<i16>, ReadFault>
-    ensures { Read vec_items (block_of (words_left words.entry)) result }
+    ensures { Read vec_items (block_words (words_left words.entry)) result }
 {
     let mut block = Vec::new(heap);
     for word in words {
@@ -59,7 +59,7 @@ fn command(heap: Global, name: &[u8], words: Words) -> Result<Line, ReadFault>
 
 // What a line says, or why it is not read.
 pub fn read_line(heap: Global, text: &[u8]) -> Result<Line, ReadFault>
-    ensures { Read line_means (line_of text.now) result }
+    ensures { Read line_means (line_said text.now) result }
 {
     let mut words = Words::of(uncommented(text));
     match words.next() {

@@ -40,8 +40,8 @@ signed_of half [] = None
 signed_of half (b ∷ bs) = cond (b == 45) (negative_of half bs) (positive_of half (b ∷ bs))
 
 -- a signed number of 32 bits
-abbrev pub number_of : List ℕ → Option ℤ
-number_of bs = signed_of (2 ^ 31) bs
+abbrev pub integer_of : List ℕ → Option ℤ
+integer_of bs = signed_of (2 ^ 31) bs
 
 -- the signed number of 16 bits whose bits are these hexadecimal digits
 abbrev pub bits_of : List ℕ → Option ℤ

@@ -1,6 +1,6 @@
 // Numbers, read from the bytes of a word.
 ghost use Rattle.std.specs.Prelude.{◌≡◌, ◌^◌, ◌≤◌};
-ghost use Rattle.text.specs.Decimals.{below, digits_of, natural_of, positive_of, negative_of, signed_of, number_of, bits_of, word_of};
+ghost use Rattle.text.specs.Decimals.{below, digits_of, natural_of, positive_of, negative_of, signed_of, integer_of, bits_of, word_of};
 
 // The number that one or more digits write in a base.
 #[tactic(auto, using(crate::proofs::DecimalLaws::digits_large))]
@@ -44,7 +44,7 @@ fn negative(digits: &[u8]) -> Option<i32>
 
 // A signed number: an unsigned one, with at most one `-` in front.
 pub fn number(word: &[u8]) -> Option<i32>
-    ensures { result ≡ number_of word.now }
+    ensures { result ≡ integer_of word.now }
 {
     match word {
         [b'-', digits @ ..] => negative(digits),
