@@ -9,8 +9,8 @@
 //
 // They answer words of 32 bits: a set-up, a block and an event the number, ticks the steps of each, a reading the number and then all
 // words of its buffer, a look at the drive its place, whether it is tripped (0 or 1), and what it shows of its kind.
-ghost use Rattle.std.specs.Prelude.{◌≡◌, ◌<◌, length, slice_index, IfSome, None};
-ghost use Rattle.coded.specs.Calls.{first_answers, answers_of, call_number};
+ghost use Rattle.std.specs.Prelude.{◌≡◌, ◌<◌, length, drop, slice_index, IfSome, None, is_some};
+ghost use Rattle.coded.specs.Calls.{call_size, begins_whole, Says, first_answers, answers_of, call_number};
 
 #[derive(Clone, Copy)]
 pub enum Call<'a> {
@@ -32,9 +32,12 @@ pub struct Next<'a> {
 
 // The first call of some bytes; none where they begin with no whole one.
 pub fn next_call(bytes: &[u8]) -> Option<Next<'_>>
+    ensures whole { is_some result ≡ begins_whole bytes.now }
+    ensures rest { IfSome result (λ next. next.rest.now ≡ drop (call_size bytes.now) bytes.now) }
     ensures shorter { IfSome result (λ next. length next.rest.now < length bytes.now) }
     ensures unknown { 5 < slice_index bytes.now 0 → result ≡ None }
     ensures number { IfSome result (λ next. call_number next.call ≡ slice_index bytes.now 0) }
+    ensures says { IfSome result (λ next. Says next.call bytes.now) }
     ensures answers { IfSome result (λ next. answers_of next.call ≡ first_answers bytes.now) }
 {
     let (call, rest) = match bytes {
