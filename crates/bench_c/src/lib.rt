@@ -5,7 +5,7 @@
 // names each call, so each takes the rates apart and promises the same of its own `out`.
 #![tactic(auto)]
 
-ghost use Rattle.std.specs.Prelude.{◌≡◌, ◌<◌, ◌⊎◌, [], length, Some};
+ghost use Rattle.std.specs.Prelude.{◌≡◌, ◌<◌, ◌≤◌, ◌⊎◌, [], length, Some};
 ghost use Rattle.profile.specs.Plans.{plan_fault};
 ghost use Rattle.profile.specs.declared.fault.PlanFault.{PlanFault};
 ghost use Rattle.bench.specs.Flat.{plan_in};
@@ -60,7 +60,8 @@ pub extern "C" fn longbed_calls(
     out: &mut [i32],
 ) -> u8
     ensures unknown { (1 < drive) ⊎ (5 < profile) → (result ≡ 1) × (out.new ≡ out.old) }
-    ensures stuck { IsStuck calls.now (length out.old) → (0 < result) × (out.new ≡ out.old) }
+    ensures unreadable { drive ≤ 1 → profile ≤ 5 → IsStuck calls.now (length out.old) Unmade.Unreadable → (result ≡ 2) × (out.new ≡ out.old) }
+    ensures crowded { drive ≤ 1 → profile ≤ 5 → IsStuck calls.now (length out.old) Unmade.NoRoom → (result ≡ 3) × (out.new ≡ out.old) }
     ensures none { calls.now ≡ [] → (result < 2) × (out.new ≡ out.old) }
 {
     let Some(bed) = bed_of(drive, profile, outer, inner) else {

@@ -1,6 +1,8 @@
 -- Calls as bytes: how many words they answer, and when the first of a list cannot be made.
-use Rattle.std.specs.Prelude.{◌≡◌, ℕ, ◌+◌, ◌*◌, ◌<◌, ◌⊎◌, Bool, not, ◌&&◌, ◌==◌, nat_lt, ℤ, List, [], ◌∷◌, length, take, drop, slice_index, cond}
+use Rattle.std.specs.Prelude.{◌≡◌, ℕ, ◌+◌, ◌*◌, ◌<◌, Bool, true, false, not, ◌&&◌, ◌==◌, nat_lt, ℤ, List, [], ◌∷◌, length, take, drop, slice_index, cond}
 use Rattle.std.specs.Int.{from_le_bytes, cast_signed, w32}
+use Rattle.coded.specs.declared.run.Unmade.{Unmade}
+use Rattle.coded.specs.declared.run.Unmade.TheVariants.{Unreadable, NoRoom}
 use Rattle.coded.specs.declared.call.Call.{Call}
 use Rattle.coded.specs.declared.call.Call.TheVariants.{SetUp, Block, Event, Ticks, Reading, Drive}
 
@@ -54,6 +56,7 @@ first_answers bytes =
     cond (kind == 3) (slice_index bytes 1 + 256 * slice_index bytes 2)
     (cond (kind == 4) (1 + slice_index bytes 1) (cond (kind == 5) 3 (cond (length bytes == 0) 0 1)))
 
--- the first call has a number that no call has, or answers more words than there is room for
-abbrev pub IsStuck : List ℕ → ℕ → Type 0
-IsStuck bytes room = (5 < slice_index bytes 0) ⊎ (room < first_answers bytes)
+-- Why the first call of a list is not made: its bytes begin with no whole call, or it answers more words than there is room for.
+abbrev pub IsStuck : List ℕ → ℕ → Unmade → Type 0
+IsStuck bytes room Unreadable = (0 < length bytes) × (begins_whole bytes ≡ false)
+IsStuck bytes room NoRoom = (begins_whole bytes ≡ true) × (room < first_answers bytes)

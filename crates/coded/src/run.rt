@@ -1,5 +1,5 @@
 // Lists of calls, made of an axis from power-up on.
-ghost use Rattle.std.specs.Prelude.{◌≡◌, ◌<◌, [], length, IfSome, IsNone, ◌↔◌, None, is_ok, false, true};
+ghost use Rattle.std.specs.Prelude.{◌≡◌, ◌<◌, [], length, IfSome, IsNone, ◌↔◌, None, Err, is_ok, true};
 ghost use Rattle.coded.specs.Calls.{answers_of, IsStuck};
 
 use crate::call::{Call, answers, next_call};
@@ -96,7 +96,8 @@ fn run_over<D: Shown + Drop, P: Profile + Drop>(
     calls: &[u8],
     out: &mut [i32],
 ) -> Result<(), Unmade>
-    ensures stuck { IsStuck calls.now (length out.old) → (is_ok result ≡ false) × (out.new ≡ out.old) }
+    ensures unreadable { IsStuck calls.now (length out.old) Unmade.Unreadable → (result ≡ Err Unmade.Unreadable) × (out.new ≡ out.old) }
+    ensures crowded { IsStuck calls.now (length out.old) Unmade.NoRoom → (result ≡ Err Unmade.NoRoom) × (out.new ≡ out.old) }
     ensures none { calls.now ≡ [] → (is_ok result ≡ true) × (out.new ≡ out.old) }
 {
     let mut axis = Axis::power_up(drive, profile);
@@ -121,7 +122,8 @@ fn run_on_base<D: Shown + Drop, P: Profile + Drop>(
     calls: &[u8],
     out: &mut [i32],
 ) -> Result<(), Unmade>
-    ensures stuck { IsStuck calls.now (length out.old) → (is_ok result ≡ false) × (out.new ≡ out.old) }
+    ensures unreadable { IsStuck calls.now (length out.old) Unmade.Unreadable → (result ≡ Err Unmade.Unreadable) × (out.new ≡ out.old) }
+    ensures crowded { IsStuck calls.now (length out.old) Unmade.NoRoom → (result ≡ Err Unmade.NoRoom) × (out.new ≡ out.old) }
     ensures none { calls.now ≡ [] → (is_ok result ≡ true) × (out.new ≡ out.old) }
 {
     match smoothings {
@@ -139,7 +141,8 @@ fn run_on_drive<D: Shown + Drop>(
     calls: &[u8],
     out: &mut [i32],
 ) -> Result<(), Unmade>
-    ensures stuck { IsStuck calls.now (length out.old) → (is_ok result ≡ false) × (out.new ≡ out.old) }
+    ensures unreadable { IsStuck calls.now (length out.old) Unmade.Unreadable → (result ≡ Err Unmade.Unreadable) × (out.new ≡ out.old) }
+    ensures crowded { IsStuck calls.now (length out.old) Unmade.NoRoom → (result ≡ Err Unmade.NoRoom) × (out.new ≡ out.old) }
     ensures none { calls.now ≡ [] → (is_ok result ≡ true) × (out.new ≡ out.old) }
 {
     match kind.base {
@@ -150,7 +153,8 @@ fn run_on_drive<D: Shown + Drop>(
 
 // Makes the calls of an axis over a bed of this kind, whose drive stands at 0, and writes their answers to the front of `out`.
 pub fn run_calls(bed: BedKind, calls: &[u8], out: &mut [i32]) -> Result<(), Unmade>
-    ensures stuck { IsStuck calls.now (length out.old) → (is_ok result ≡ false) × (out.new ≡ out.old) }
+    ensures unreadable { IsStuck calls.now (length out.old) Unmade.Unreadable → (result ≡ Err Unmade.Unreadable) × (out.new ≡ out.old) }
+    ensures crowded { IsStuck calls.now (length out.old) Unmade.NoRoom → (result ≡ Err Unmade.NoRoom) × (out.new ≡ out.old) }
     ensures none { calls.now ≡ [] → (is_ok result ≡ true) × (out.new ≡ out.old) }
 {
     match bed.drive {
