@@ -1,8 +1,9 @@
 // Plans from flat numbers: the rows stand as steps, speed, steps, speed, ..
-ghost use Rattle.std.specs.Prelude.{◌≡◌, ◌*◌, ◌/◌, ◌≤◌, length, map, if◌then◌else◌, is_some, IfSome, nat_le, true, Some, None};
+ghost use Rattle.std.specs.Prelude.{◌≡◌, ◌*◌, ◌≤◌, length, map, if◌then◌else◌, is_some, IfSome, nat_le, true, Some, None};
 ghost use Rattle.profile.specs.Plans.{plan_fault, plan_steps};
+ghost use Rattle.profile.specs.Profiles.{plan_ticks};
 ghost use Rattle.profile.specs.declared.fault.PlanFault.{PlanFault};
-ghost use Rattle.bench.specs.Flat.{MadeOf, plan_in, row_of};
+ghost use Rattle.bench.specs.Flat.{MakePlan, MadeOf, plan_in, row_of};
 
 use crate::run::{Outcome, run_plan};
 use profile::list::RowList;
@@ -44,7 +45,8 @@ pub fn run_flat<P: Profile>(
 ) -> Option<Outcome>
     ensures refused { (e : PlanFault) → plan_fault (plan_in start rates.accel rates.decel rows.now) ≡ Some e → result ≡ None }
     ensures gone { IfSome result (λ outcome. outcome.gone ≡ 1000 * plan_steps (plan_in start rates.accel rates.decel rows.now)) }
-    ensures made { plan_fault (plan_in start rates.accel rates.decel rows.now) ≡ None → length rows.now ≡ 2 * (length rows.now / 2) → length rows.now / 2 ≤ 16 → is_some result ≡ true }
+    ensures soon { IfSome result (λ outcome. outcome.ticks ≤ plan_ticks (plan_in start rates.accel rates.decel rows.now) (P.Profile.means profile.old).lag) }
+    ensures made { MakePlan (plan_in start rates.accel rates.decel rows.now) rows.now → is_some result ≡ true }
 {
     let plan = plan_of(start, rates, rows)?;
     Some(run_plan(profile, plan, None))

@@ -5,10 +5,11 @@
 // names each call, so each takes the rates apart and promises the same of its own `out`.
 #![tactic(auto)]
 
-ghost use Rattle.std.specs.Prelude.{◌≡◌, ◌<◌, ◌≤◌, ◌⊎◌, [], length, Some};
+ghost use Rattle.std.specs.Prelude.{◌≡◌, ◌-◌, ◌<◌, ◌≤◌, ◌⊎◌, [], length, Some};
 ghost use Rattle.profile.specs.Plans.{plan_fault};
 ghost use Rattle.profile.specs.declared.fault.PlanFault.{PlanFault};
-ghost use Rattle.bench.specs.Flat.{plan_in};
+ghost use Rattle.bench.specs.Flat.{plan_in, MakePlan, Told};
+ghost use Rattle.smoothing.specs.Lengths.{length_for};
 ghost use Rattle.coded.specs.Calls.{IsStuck};
 
 use bench::flat::run_flat;
@@ -23,6 +24,7 @@ use smoothing::smoothed::Smoothed;
 pub extern "C" fn longbed_ramp(start: u32, accel: u32, decel: u32, rows: &[u32], out: &mut [u64])
     ensures refused { (e : PlanFault) → plan_fault (plan_in start accel decel rows.now) ≡ Some e → out.new ≡ out.old }
     ensures short { length out.old < 2 → out.new ≡ out.old }
+    ensures told { MakePlan (plan_in start accel decel rows.now) rows.now → 2 ≤ length out.old → Told (plan_in start accel decel rows.now) 0 out.old out.new }
 {
     if let Some(outcome) = run_flat(&mut Ramp::new(), start, Rates { accel, decel }, rows) {
         outcome.tell(out);
@@ -41,6 +43,7 @@ pub extern "C" fn longbed_smoothed(
 )
     ensures refused { (e : PlanFault) → plan_fault (plan_in start accel decel rows.now) ≡ Some e → out.new ≡ out.old }
     ensures short { length out.old < 2 → out.new ≡ out.old }
+    ensures told { MakePlan (plan_in start accel decel rows.now) rows.now → 2 ≤ length out.old → Told (plan_in start accel decel rows.now) (length_for window - 1) out.old out.new }
 {
     let mut profile = Smoothed::new(Ramp::new(), window as usize);
     if let Some(outcome) = run_flat(&mut profile, start, Rates { accel, decel }, rows) {
