@@ -26,7 +26,7 @@ passes : {X : Type 0} (q : Bool) (why : Refusal) (next : Result X Refusal) (x : 
 passes true why next x e = (refl, e)
 passes false why next x e = absurd (none_so why x e)
 
--- a command that is accepted: every answer is yes
+-- what is used of a command that is accepted, whose every answer is yes: four of the answers, and its order
 pub record Accepted (g : ℕ) (m : AxisMeans) (b : Block) (c : Command) (o : Order) : Type 0 where
   pub state : allowed m c ≡ true
   pub fits : values_fit g m b c ≡ true

@@ -2,7 +2,7 @@
 use Rattle.std.proofs.Common.{◌≡◌, ℕ, zero, suc, ◌+◌, ◌*◌, ◌<◌, ◌≤◌, List, [], length, map, get_or, take, drop, sym, refl, ap, ◌∙◌, arith}
 use Rattle.std.proofs.lemmas.List.{get_or-take, get_or-drop, map_more, take_all}
 use Rattle.std.specs.Simd.{first_chunks}
-use Rattle.bench.specs.Flat.{row_of, rows_in}
+use Rattle.bench.specs.Flat.{pair_row, flat_rows}
 
 pair_count : (k : ℕ) (flat : List ℕ) → length (first_chunks 2 k flat) ≡ k
 pair_count zero flat = refl
@@ -15,13 +15,13 @@ pair_at (suc k) (suc i) j flat h l =
     let e : 2 + (2 * i + j) ≡ 2 * suc i + j = omega arith in
     pair_at k i j (drop 2 flat) (omega arith) l ∙ get_or-drop 2 flat (2 * i + j) 0 ∙ ap (λ n. get_or flat n 0) e
 
-first_pairs : (k i : ℕ) (flat : List ℕ) → i ≤ k → map row_of (take i (first_chunks 2 k flat)) ≡ rows_in i flat
-unfolding rows_in
+first_pairs : (k i : ℕ) (flat : List ℕ) → i ≤ k → map pair_row (take i (first_chunks 2 k flat)) ≡ flat_rows i flat
+unfolding flat_rows
 first_pairs k zero flat h = refl
 first_pairs k (suc i) flat h =
     let on : suc i ≡ i + 1 = omega arith in
     let z : 2 * i + 0 ≡ 2 * i = omega arith in
-    rw (on, map_more row_of (first_chunks 2 k flat) i [] (omega (arith, pair_count k flat)), first_pairs k i flat (omega arith), pair_at k i 0 flat (omega arith) (omega arith), pair_at k i 1 flat (omega arith) (omega arith), z)
+    rw (on, map_more pair_row (first_chunks 2 k flat) i [] (omega (arith, pair_count k flat)), first_pairs k i flat (omega arith), pair_at k i 0 flat (omega arith) (omega arith), pair_at k i 1 flat (omega arith) (omega arith), z)
 
-pub rows_in_pairs : (k : ℕ) (flat : List ℕ) → map row_of (first_chunks 2 k flat) ≡ rows_in k flat
-rows_in_pairs k flat = sym (ap (map row_of) (take_all k (first_chunks 2 k flat) (omega (arith, pair_count k flat)))) ∙ first_pairs k k flat (omega arith)
+pub rows_in_pairs : (k : ℕ) (flat : List ℕ) → map pair_row (first_chunks 2 k flat) ≡ flat_rows k flat
+rows_in_pairs k flat = sym (ap (map pair_row) (take_all k (first_chunks 2 k flat) (omega (arith, pair_count k flat)))) ∙ first_pairs k k flat (omega arith)

@@ -6,17 +6,17 @@ use Rattle.profile.specs.declared.plan.Plan.{Plan}
 use Rattle.profile.specs.declared.row.Row.{Row}
 
 -- the row of a pair
-abbrev pub row_of : List ℕ → Row
-row_of pair = record { steps = slice_index pair 0; speed = slice_index pair 1 }
+abbrev pub pair_row : List ℕ → Row
+pair_row pair = record { steps = slice_index pair 0; speed = slice_index pair 1 }
 
 -- the first n rows
-unfoldable pub rows_in : ℕ → List ℕ → List Row
-rows_in zero flat = []
-rows_in (suc n) flat = rows_in n flat ++ record { steps = slice_index flat (2 * n); speed = slice_index flat (2 * n + 1) } ∷ []
+unfoldable pub flat_rows : ℕ → List ℕ → List Row
+flat_rows zero flat = []
+flat_rows (suc n) flat = flat_rows n flat ++ record { steps = slice_index flat (2 * n); speed = slice_index flat (2 * n + 1) } ∷ []
 
 -- all of them, as a plan with these numbers
 abbrev pub plan_in : ℕ → ℕ → ℕ → List ℕ → PlanMeans
-plan_in start accel decel flat = record { start = start; accel = accel; decel = decel; rows = rows_in (length flat / 2) flat }
+plan_in start accel decel flat = record { start = start; accel = accel; decel = decel; rows = flat_rows (length flat / 2) flat }
 
 -- flat numbers make a plan: they break no bound of one, no speed is missing, and there are 16 rows at most
 abbrev pub MakePlan : PlanMeans → List ℕ → Type 0

@@ -3,7 +3,7 @@ ghost use Rattle.std.specs.Prelude.{◌≡◌, ◌*◌, ◌≤◌, length, map, 
 ghost use Rattle.profile.specs.Plans.{plan_fault, plan_steps};
 ghost use Rattle.profile.specs.Profiles.{plan_ticks};
 ghost use Rattle.profile.specs.declared.fault.PlanFault.{PlanFault};
-ghost use Rattle.bench.specs.Flat.{MakePlan, MadeOf, plan_in, row_of};
+ghost use Rattle.bench.specs.Flat.{MakePlan, MadeOf, plan_in, pair_row};
 
 use crate::run::{Outcome, run_plan};
 use profile::list::RowList;
@@ -14,7 +14,7 @@ use profile::traits::Profile;
 
 // The rows of pairs of steps and speed; none if they are too many. A loop of its own beside `RowList::of`: what they share is `push`.
 fn rows_of(pairs: &[[u32; 2]]) -> Option<RowList>
-    ensures { result ≡ (if nat_le (length pairs.now) 16 then Some (map row_of pairs.now) else None) }
+    ensures { result ≡ (if nat_le (length pairs.now) 16 then Some (map pair_row pairs.now) else None) }
 {
     let mut rows = RowList::new();
     for &[steps, speed] in pairs {

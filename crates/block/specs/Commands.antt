@@ -19,21 +19,21 @@ bit_of command.Segment = 12
 bit_of command.Run = 13
 
 -- only this command's bit rises: then it is the command; otherwise what else it is
-abbrev pub or_else : ℕ → Command → Result (Option Command) Refusal → Result (Option Command) Refusal
-or_else r c other = cond (r == 2 ^ bit_of c) (Ok (Some c)) other
+abbrev pub or_command : ℕ → Command → Result (Option Command) Refusal → Result (Option Command) Refusal
+or_command r c other = cond (r == 2 ^ bit_of c) (Ok (Some c)) other
 
 -- none where no bit rises, the one whose bit alone rises, and otherwise a refusal
 abbrev pub commanded : ℕ → Result (Option Command) Refusal
 commanded r =
     cond (r == 0) (Ok None)
-    (or_else r command.Absolute
-    (or_else r command.Relative
-    (or_else r command.Hold
-    (or_else r command.Resume
-    (or_else r command.Stop
-    (or_else r command.Preset
-    (or_else r command.Reset
-    (or_else r command.Program
-    (or_else r command.Segment
-    (or_else r command.Run
+    (or_command r command.Absolute
+    (or_command r command.Relative
+    (or_command r command.Hold
+    (or_command r command.Resume
+    (or_command r command.Stop
+    (or_command r command.Preset
+    (or_command r command.Reset
+    (or_command r command.Program
+    (or_command r command.Segment
+    (or_command r command.Run
     (Err refusal.SeveralCommands)))))))))))

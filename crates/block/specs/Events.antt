@@ -17,18 +17,18 @@ code_of (event.EStop false) = 6
 code_of event.Trip = 7
 
 -- the code is this event's: then it is the event; otherwise what else it is
-abbrev pub or_else : ℕ → Event → Result Event Refusal → Result Event Refusal
-or_else n e other = cond (n == code_of e) (Ok e) other
+abbrev pub or_event : ℕ → Event → Result Event Refusal → Result Event Refusal
+or_event n e other = cond (n == code_of e) (Ok e) other
 
 -- the event with this code, if there is one
 abbrev pub event_of : ℤ → Result Event Refusal
 event_of (negsuc n) = Err refusal.EventCode
 event_of (pos n) =
-    or_else n (event.Limit Cw true)
-    (or_else n (event.Limit Cw false)
-    (or_else n (event.Limit Ccw true)
-    (or_else n (event.Limit Ccw false)
-    (or_else n (event.EStop true)
-    (or_else n (event.EStop false)
-    (or_else n event.Trip
+    or_event n (event.Limit Cw true)
+    (or_event n (event.Limit Cw false)
+    (or_event n (event.Limit Ccw true)
+    (or_event n (event.Limit Ccw false)
+    (or_event n (event.EStop true)
+    (or_event n (event.EStop false)
+    (or_event n event.Trip
     (Err refusal.EventCode)))))))

@@ -1,4 +1,5 @@
--- Pairs: a number in two signed words of sixteen bits, 1000 × first + second. Neither has the opposite sign of the other, and the second's size is below 1000.
+-- Pairs: a number in two signed words of sixteen bits, 1000 × first + second. Neither has the opposite sign of the other, and the second's
+-- size is below 1000.
 use Rattle.std.specs.Prelude.{suc, ◌/◌, ◌%◌, Bool, cond, ◌&&◌, ◌||◌, ℤ, pos, negsuc, ◌+ℤ◌, ◌*ℤ◌, neg_ℤ, Some, None, Option, int_lt, nat_le, unsigned_abs}
 use Rattle.block.specs.declared.pair.Pair.{Pair}
 

@@ -40,7 +40,8 @@ impl RowList {
         }
     }
 
-    // These rows, unless they are too many: no `TryFrom`, whose error would say no more than `None`. (With `try_for_each` or `copy_from_slice` in place of the loop the proof did not close.)
+    // These rows, unless they are too many: no `TryFrom`, whose error would say no more than `None`. (With `try_for_each` or
+    // `copy_from_slice` in place of the loop the proof did not close.)
     pub fn of(rows: &[Row]) -> Option<Self>
         ensures { result ≡ (if nat_le (length rows.now) 16 then Some rows.now else None) }
     {
