@@ -2,10 +2,10 @@
 use Rattle.std.specs.Prelude.{◌<◌, ◌≤◌, Some, None, Option}
 use Rattle.std.proofs.Common.{arith}
 use Rattle.std.proofs.lemmas.List.{length-take}
-use Rattle.profile.specs.Plans.{PlanMeans, Lawful, plan_means, plan_of, millisteps_of}
+use Rattle.profile.specs.Plans.{PlanMeans, Lawful, plan_means, plan_of, plan_steps, millisteps_of}
 use Rattle.profile.specs.Profiles.{LawfulOf, start_of, fastest}
 use Rattle.profile.specs.declared.plan.Plan.{Plan}
-use Rattle.profile.specs.RowLaws.{top_least}
+use Rattle.profile.specs.RowLaws.{top_least, top_most, steps_least}
 
 pub lawful : (p : Plan) → Lawful (plan_means p)
 lawful p =
@@ -36,3 +36,12 @@ starts_some (Some p) h = omega (arith, p.starts)
 pub start_top : (o : Option PlanMeans) → LawfulOf o → start_of o ≤ fastest o
 start_top None l = omega arith
 start_top (Some m) l = top_least m.start m.rows l.each l.few.0
+
+-- no top is above the greatest speed that a row may have
+pub top_bound : (o : Option PlanMeans) → LawfulOf o → fastest o ≤ 200000
+top_bound None l = omega arith
+top_bound (Some m) l = top_most m.start m.rows l.each
+
+-- a plan has some steps
+pub steps_some : (m : PlanMeans) → Lawful m → 1 ≤ plan_steps m
+steps_some m l = steps_least m.start m.rows l.each l.few.0

@@ -3,6 +3,7 @@ pub mod Braking
 pub mod Places
 pub mod Ramping
 pub mod Ramps
+pub mod CallLaws
 pub mod Speeds
 pub mod RampLaws
 pub mod AdvanceLaws

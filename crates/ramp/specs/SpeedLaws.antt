@@ -35,6 +35,12 @@ speed_here (r ∷ rows) zero g h a b = first_speed r rows g (omega arith)
 speed_here (r ∷ rows) (suc i) g h a b =
     later_speed r rows g (omega arith) ∙ speed_here rows i (g - 1000 * r.steps) (omega arith) (omega arith) (omega arith)
 
+-- no row holds one past the last
+pub speed_past : (rows : List Row) (g : ℕ) → 1000 * steps_of rows ≤ g → speed_at rows g ≡ 0
+unfolding steps_of speed_at
+speed_past [] g h = refl
+speed_past (r ∷ rows) g h = later_speed r rows g (omega arith) ∙ speed_past rows (g - 1000 * r.steps) (omega arith)
+
 -- the row of a millistep of the plan is at least as fast as the start, and no row is faster than the top
 pub speed_least : (S : ℕ) (rows : List Row) (g : ℕ) → are_rows S rows ≡ true → g < 1000 * steps_of rows → S ≤ speed_at rows g
 unfolding steps_of

@@ -1,9 +1,24 @@
 -- A ring of values, written at the oldest.
-use Rattle.std.specs.Prelude.{◌≡◌, ℕ, zero, suc, ◌+◌, ◌<◌, ◌≤◌, cond, List, [], ◌∷◌, ◌++◌, reverse, length, take, drop, replicate, nat_lt, slice_index, slice_set, refl}
-use Rattle.std.proofs.Common.{sym, ap, ◌∙◌, ⊎_elim, append_assoc, append-nil, arith, add-one, drop-cons, drop-set-lt, take-suc-set}
+use Rattle.std.specs.Prelude.{◌≡◌, ℕ, zero, suc, ◌+◌, ◌<◌, ◌≤◌, cond, List, [], ◌∷◌, ◌++◌, reverse, length, sum, take, drop, replicate, nat_lt, slice_index, slice_set, refl}
+use Rattle.std.proofs.Common.{sym, ap, ◌∙◌, ⊎_elim, append_assoc, take-append-drop, append-nil, arith, add-one, drop-cons, drop-set-lt, take-suc-set}
 use Rattle.std.proofs.lemmas.List.{drop_all, reverse-append, set_split}
+use Rattle.std.proofs.lemmas.List.Sums.{sum_by-append}
 use Rattle.std.proofs.lemmas.Bool.{cases_lt, lt-ltb, le-ltb}
+use Rattle.smoothing.specs.Pushes.{sum_cons}
 use Rattle.smoothing.specs.Windows.{pushed, oldest, newest_first}
+
+total_append : (xs ys : List ℕ) → sum (xs ++ ys) ≡ sum xs + sum ys
+total_append = sum_by-append (λ x. x)
+
+total_reverse : (xs : List ℕ) → sum (reverse xs) ≡ sum xs
+total_reverse [] = refl
+total_reverse (x ∷ xs) =
+    ap sum (reverse-append (x ∷ []) xs) ∙ omega (arith, total_append (reverse xs) (x ∷ []), total_reverse xs, sum_cons x xs, sum_cons x [])
+
+-- a ring has the sum of its values
+pub total_newest : (i : ℕ) (r : List ℕ) → sum (newest_first i r) ≡ sum r
+total_newest i r =
+    omega (arith, total_reverse (drop i r ++ take i r), total_append (drop i r) (take i r), total_append (take i r) (drop i r), ap sum (take-append-drop i r))
 
 pushed_snoc : (v x : ℕ) (xs : List ℕ) → pushed v (xs ++ x ∷ []) ≡ v ∷ xs
 pushed_snoc v x [] = refl
