@@ -13,6 +13,7 @@ use profile::row::Row;
 use profile::traits::Profile;
 
 // The rows of pairs of steps and speed; none if they are too many. A loop of its own beside `RowList::of`: what they share is `push`.
+#[inline(always)]
 fn rows_of(pairs: &[[u32; 2]]) -> Option<RowList>
     ensures { result ≡ (if nat_le (length pairs.now) 16 then Some (map pair_row pairs.now) else None) }
 {
@@ -26,6 +27,7 @@ fn rows_of(pairs: &[[u32; 2]]) -> Option<RowList>
 // A plan of rows that stand flat; none if a number is missing, if there are too many rows, or if there is no such plan. It tells no fault,
 // since C is told none.
 #[tactic(auto, using(crate::proofs::Pairs::rows_in_pairs, std::proofs::lemmas::Grind::common_steps))]
+#[inline(always)]
 pub fn plan_of(start: u32, rates: Rates, flat: &[u32]) -> Option<Plan>
     ensures { MadeOf (plan_in start rates.accel rates.decel flat.now) flat.now result }
 {

@@ -72,15 +72,6 @@ impl RowList {
         &self.rows[..self.count]
     }
 
-    // Its places, and how many of them hold its rows.
-    pub(crate) fn into_places(self) -> ([Row; 16], usize)
-        ensures rows { take result.1 result.0 ≡ self }
-        ensures few { result.1 ≤ 16 }
-    {
-        let rows = self.rows;
-        (rows, self.count)
-    }
-
     pub fn len(&self) -> usize
         ensures count { result ≡ length self.now }
         ensures few { result ≤ 16 }

@@ -29,6 +29,7 @@ impl Model for Ring {
 
 impl Ring {
     // `length` times `value`: 0 counts as 1, and more than 64 as 64.
+    #[inline(always)]
     pub(crate) fn new(length: usize, value: u64) -> Ring
         ensures { result ≡ replicate (length_for length) value }
     {
@@ -43,6 +44,14 @@ impl Ring {
         ensures within { (1 ≤ result) × (result ≤ 64) }
     {
         self.values.len()
+    }
+
+    // Makes all of them equal to `value`, where they stand.
+    pub(crate) fn refill(&mut self, value: u64)
+        ensures { self.new ≡ replicate (length self.old) value }
+    {
+        self.values.fill(value);
+        self.next = 0;
     }
 
     // Keeps `value` in place of the oldest, which it answers.

@@ -3,10 +3,9 @@ ghost use Rattle.std.specs.Prelude.{◌≡◌};
 ghost use Rattle.profile.specs.Plans.{Made};
 
 use super::Plan;
-use super::rows::are_rows;
+use super::rows::{are_rows, in_places};
 use crate::extent::measure;
 use crate::fault::PlanFault;
-use crate::list::RowList;
 use crate::rates::Rates;
 use crate::row::Row;
 
@@ -25,10 +24,9 @@ impl Plan {
         if !(1..=5000).contains(&rates.decel) {
             return Err(PlanFault::Deceleration);
         }
-        if rows.is_empty() {
+        if rows.is_empty() || rows.len() > 16 {
             return Err(PlanFault::RowCount);
         }
-        let (places, count) = RowList::of(rows).ok_or(PlanFault::RowCount)?.into_places();
         if !are_rows(start, rows) {
             return Err(PlanFault::Row);
         }
@@ -39,8 +37,8 @@ impl Plan {
         Ok(Plan {
             start,
             rates,
-            rows: places,
-            count,
+            rows: in_places(rows),
+            count: rows.len(),
             steps: all.steps as u32,
             top: all.top,
         })

@@ -17,6 +17,7 @@ use profile::traits::Profile;
 impl<P: Profile> Smoothed<P> {
     // Over the last `length` ticks, 1 to 64: 0 counts as 1, and more as 64, which the ring sees to; a type for a length would hand that on
     // and no more. `below` may be under way: at first every value kept is what it has gone.
+    #[inline(always)]
     pub fn new(below: P, length: usize) -> Smoothed<P>
         ensures below { result.below ≡ below }
         ensures kept { kept_over result ≡ replicate (length_for length) (P.Profile.means below).gone }

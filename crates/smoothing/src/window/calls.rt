@@ -9,6 +9,7 @@ use crate::standing::Standing;
 
 impl Window {
     // Over the last `length` ticks, 1 to 64: 0 counts as 1, and more as 64. All values are what the profile has gone.
+    #[inline(always)]
     pub(crate) fn new(length: usize, standing: Standing) -> Window
         ensures kept { result.kept ≡ replicate (length_for length) standing.gone }
         ensures standing { result.standing ≡ standing }
@@ -49,7 +50,11 @@ impl Window {
         ensures kept { self.new.kept ≡ replicate (length self.old.kept) standing.gone }
         ensures standing { self.new.standing ≡ standing }
     {
-        *self = Window::new(self.kept.len(), standing);
+        let gone = standing.gone;
+        self.kept.refill(gone);
+        self.total = gone * self.kept.len() as u64;
+        self.mean = gone;
+        self.standing = standing;
     }
 
     // The mean of its values, rounded down.
