@@ -3,6 +3,7 @@ ghost use Rattle.std.specs.Prelude.{◌≡◌, Some, None, MatchResult};
 ghost use Rattle.profile.specs.Plans.{plan_fault};
 ghost use Rattle.trials.specs.Trials.{plan_asked};
 
+use arrayvec::ArrayVec;
 use bench::run::{Outcome, run_plan};
 use profile::fault::PlanFault;
 use profile::plan::Plan;
@@ -15,8 +16,8 @@ use text::number::natural;
 use text::text::Words;
 
 // The numbers of a line; a word that is no number counts as 0, and more than 37 words are left out. `tools/trials.py`, which writes the
-// lines, writes none such.
-fn numbers(alloc: Global, text: &[u8]) -> Result<Vec<u32>, AllocError> {
+// lines, writes none such. They find room in the array, and nothing is taken from the heap.
+fn numbers(alloc: Global, text: &[u8]) -> Result<ArrayVec<u32, 37>, AllocError> {
     Words::of(text)
         .take(37)
         .map(|word| natural(word).unwrap_or(0))
@@ -30,7 +31,7 @@ pub struct Trial {
     start: u32,
     rates: Rates,
     braked: Option<u32>,
-    rows: Vec<Row>,
+    rows: ArrayVec<Row, 16>,
 }
 
 impl Trial {
