@@ -1,1 +1,2 @@
 pub mod BrakingForm
+pub mod Halving

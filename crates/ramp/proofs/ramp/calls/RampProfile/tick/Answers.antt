@@ -1,12 +1,23 @@
 use Rattle.std.proofs.Common.{◌≡◌, Some, arith}
 use Rattle.std.proofs.lemmas.Grind.{common_steps}
 use Rattle.profile.specs.Plans.{plan_means, plan_of}
+use Rattle.profile.specs.PlanLaws.{lawful, top_bound}
 use Rattle.ramp.specs.Advances.{Greatest}
+use Rattle.ramp.specs.CallLaws.{last_bound}
 use Rattle.ramp.specs.Ramping.{MayAdvance}
 use Rattle.ramp.specs.Speeds.{speed_at}
+use Rattle.ramp.specs.SpeedLaws.{speed_top}
 use Rattle.ramp.specs.RampLaws.{greatest_next, idle_greatest, idle_ticks, sound, ticks_of}
 use Rattle.ramp.proofs.ramp.calls.RampProfile.tick.Goals as goal
 use Rattle.ramp.proofs.ramp.calls.RampProfile.tick.Goals.{After-go}
+
+pub next_advance-advance-requires : goal.next_advance-advance-requires
+next_advance-advance-requires c =
+    let p = c.in-Some.plan.now in
+    let top = top_bound (Some (plan_means p)) (lawful p) in
+    let row = speed_top (plan_means p).rows c.args.self.now.progress.gone in
+    let same : c.speed_after-row_speed.result ≡ speed_at (plan_means p).rows c.args.self.now.progress.gone = cc in
+    record { row = omega (arith, same, row, top); last = last_bound c.args.self.now }
 
 module _ (c : After-go) where
   greatest : Greatest (MayAdvance (plan_of c.args.self.now.progress.plan) c.args.self.now.progress.asked c.args.self.now.progress.gone c.args.self.now.last) c.go.result
