@@ -2,6 +2,7 @@ pub mod Deliveries
 pub mod Directions
 pub mod Drives
 pub mod PhaseDrives
+pub mod PhaseLaws
 pub mod Phases
 pub mod Positions
 pub mod PulseDrives
