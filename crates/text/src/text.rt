@@ -69,10 +69,13 @@ impl<'a> Iterator for Words<'a> {
 
     ghost remaining = { item_count words_left };
 
-    // Takes the next word off, if there is one.
+    // Takes the next word off, if there is one. At the end the blanks that are left go too: a further call does not scan them again.
     #[tactic(auto, using(crate::proofs::TextLaws::words_none, crate::proofs::TextLaws::word_taken, std::proofs::lemmas::List::take_rest))]
     fn next(&mut self) -> Option<&'a [u8]> {
-        let start = word_start(self.rest)?;
+        let Some(start) = word_start(self.rest) else {
+            self.rest = &[];
+            return None;
+        };
         let text = &self.rest[start..];
         let (word, rest) = text.split_at(run_len(text));
         self.rest = rest;
