@@ -61,6 +61,13 @@ leads_off at s ss e = off (goes_to at (at +ℤ s.distance)) (at +ℤ s.distance)
     off true x h = cc
     off false x h = refl
 
+-- the course goes on from where the leg ends
+pub stays_further :
+    (at to : ℤ) (rows : List Segment) (i : ℕ) (d : Segment) (all : Bool) → i < length rows → Some to ≡ leg_end at (get_or rows i d).distance
+    → stays_on at (drop i rows) ≡ all → stays_on to (drop (i + 1) rows) ≡ all
+stays_further at to rows i d all h e f =
+    sym (leads_on at to (get_or rows i d) (drop (i + 1) rows) (sym e)) ∙ (sym (at_drop_more (stays_on at) rows i d h) ∙ f)
+
 -- a course that is asked row by row, each turn from where the one before led to
 module _ {P : Type 0} (turn : P × ℤ → Bor Segment → P × ℤ → Type 0) (leads : (p q : P × ℤ) (x : Bor Segment) → turn p x q → leg_end p.1 x.now.distance ≡ Some q.1) where
   walked :
