@@ -1,5 +1,5 @@
 -- What a block orders can be carried out: its plan is a plan, its place a position, its row one that the table takes.
-use Rattle.std.proofs.Common.{◌≡◌, ℕ, ◌*◌, ◌≤◌, true, not, ◌&&◌, ◌||◌, eqb, leb, List, [], ◌∷◌, map, length, get_or, ℤ, pos, ◌+ℤ◌, nat_abs, sym, refl, ap, ◌∙◌, arith}
+use Rattle.std.proofs.Common.{◌≡◌, ℕ, ◌*◌, ◌≤◌, true, not, ◌&&◌, ◌||◌, eqb, leb, List, [], ◌∷◌, map, length, get_or, ℤ, pos, ◌+ℤ◌, nat_abs, Ok, sym, refl, ap, ◌∙◌, arith}
 use lib.ListN.{length-map}
 use Rattle.std.proofs.lemmas.Int.{ints}
 use Rattle.std.proofs.lemmas.Bool.{and_parts, and_from, not-true, eqb-false, leb-true, le-leb}
@@ -10,6 +10,7 @@ use Rattle.drive.specs.declared.direction.Direction.{Direction}
 use Rattle.drive.specs.declared.direction.Direction.TheVariants.{Cw, Ccw}
 use Rattle.profile.specs.Plans.{Lawful}
 use Rattle.profile.specs.Rows.{steps_of, is_row, are_rows}
+use Rattle.block.specs.Commands.{commanded}
 use Rattle.block.specs.Frames.{direction_of}
 use Rattle.block.specs.declared.frame.Block.{Block}
 use Rattle.table.specs.Courses.{goes_to}
@@ -18,12 +19,13 @@ use Rattle.table.specs.TablePlans.{no_segment, blend_plan, row_plan}
 use Rattle.table.specs.Tables.{table_means, has_room, takes}
 use Rattle.table.specs.declared.segment.Segment.{Segment}
 use Rattle.table.specs.declared.table.Table.{Table}
-use Rattle.axis.proofs.Orders.{Follows}
+use Rattle.axis.proofs.Orders.{Follows, order_follows}
 use Rattle.axis.specs.Axes.{AxisMeans}
 use Rattle.axis.specs.Carrying.{Ready}
-use Rattle.axis.specs.Questions.{programs, in_range, speed_fits, rate_fits, rates_fit, pace_fits, distance_fits, segment_fits, rates_of, single_of, segment_of}
+use Rattle.axis.specs.Questions.{programs, in_range, speed_fits, rate_fits, rates_fit, pace_fits, distance_fits, segment_fits, rates_of, single_of, segment_of, order_by}
 use Rattle.axis.specs.Plans.{single_plan, blend_end}
 use Rattle.axis.specs.declared.numbers.Numbers.{Numbers}
+use Rattle.axis.specs.declared.order.Order.{Order}
 
 -- what the types of an axis say of its meaning, over a drive that goes at most g steps at once
 pub record Sane (g : ℕ) (m : AxisMeans) : Type 0 where
@@ -167,3 +169,7 @@ module _ (g : ℕ) (m : AxisMeans) (s : Sane g m) where
         blend = λ b p i r w. blend_lawful b p r (some_way m.drive.place (blend_end m (direction_of b)) w).1;
         dwell = λ b p i r w. row_lawful b p r;
       }
+
+  -- and so can each order that its questions give
+  pub judged_ready : (rising : ℕ) (b : Block) (o : Order) → order_by g m b (commanded rising) ≡ Ok o → Ready m o
+  judged_ready rising b o e = order_follows g m (Ready m) ready b (commanded rising) o e

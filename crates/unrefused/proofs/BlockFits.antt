@@ -1,5 +1,5 @@
 -- A block keeps the axis fit.
-use Rattle.std.proofs.Common.{◌≡◌, ℕ, ◌*◌, ◌<◌, ◌≤◌, true, false, not, [], ◌∷◌, length, ℤ, ◌+ℤ◌, nat_abs, Ok, Err, MatchBool, Result, refl, ap, ◌∙◌, arith}
+use Rattle.std.proofs.Common.{◌≡◌, ℕ, ◌*◌, ◌<◌, ◌≤◌, true, false, not, ◌&&◌, [], ◌∷◌, length, ℤ, ◌+ℤ◌, nat_abs, Ok, Err, MatchBool, Result, refl, ap, ◌∙◌, arith}
 use Rattle.std.proofs.lemmas.Bool.{and_parts, not-true, or_parts, false≢true}
 use Rattle.drive.proofs.Landings.{toward_reaches}
 use Rattle.drive.specs.Directions.{signed, toward}
@@ -20,7 +20,7 @@ use Rattle.table.specs.Tables.{TableMeans, closed}
 use Rattle.unrefused.proofs.CallFits.{Kept, either, stop_fits, eased_fits}
 use Rattle.unrefused.proofs.Motions.{begins, brakes}
 use Rattle.axis.proofs.Orders.{Follows, order_follows}
-use Rattle.axis.proofs.Readiness.{Sane, within, some_way, ready}
+use Rattle.axis.proofs.Readiness.{Sane, within, some_way, judged_ready}
 use Rattle.unrefused.proofs.RowFits.{empty_fits, added_fits, closed_fits, tops_slow, row_begins, row_leaves}
 use Rattle.axis.specs.Axes.{AxisMeans, with_memory}
 use Rattle.axis.specs.Memories.{MemoryMeans, with_table, with_state, with_kept}
@@ -58,6 +58,11 @@ module _ (g : ℕ) (m : AxisMeans) where
   unfolding speed_fits
   speed v e = (within m.memory.table.start (1000 * g) v e).1
 
+  segment_is_asked :
+      (d v : ℤ) → programs m.memory.state ≡ true → (distance_fits d && speed_fits g m v) ≡ true
+      → Asked g m (order.Segment (record { distance = d; speed = nat_abs v }))
+  segment_is_asked d v r h = (r, speed v (and_parts (distance_fits d) (speed_fits g m v) h).1)
+
   are_asked : Follows g m (Asked g m)
   unfolding pace_fits
   are_asked =
@@ -69,8 +74,7 @@ module _ (g : ℕ) (m : AxisMeans) where
         preset = λ x h. tt;
         reset = λ trip. tt;
         program = tt;
-        segment = λ n a h.
-            ((and_parts (programs m.memory.state) _ a).0, speed n.speed (and_parts (distance_fits n.place) (speed_fits g m n.speed) h).1);
+        segment = λ n a h. segment_is_asked n.place n.speed (and_parts (programs m.memory.state) _ a).0 h;
         blend = λ b p i r w. (untripped i, (some_way m.drive.place (blend_end m (direction_of b)) w).1);
         dwell = λ b p i r w. (untripped i, r, w);
       }
@@ -182,7 +186,7 @@ block_fits g l m (Ok b) p here f u =
     let s = sane g k l here fit in
     finished_fits g k fit here (block_order g m b) p
     (λ o e. (
-      order_follows g k (Ready k) (ready g k s) b (commanded (rising m.memory.kept b.bits)) o e,
+      judged_ready g k s (rising m.memory.kept b.bits) b o e,
       order_follows g k (Asked g k) (are_asked g k) b (commanded (rising m.memory.kept b.bits)) o e,
     )) u
 block_fits g l m (Err why) p here f u = f

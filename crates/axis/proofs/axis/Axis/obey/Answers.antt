@@ -2,9 +2,7 @@ use Rattle.std.proofs.Common.{sym}
 use Rattle.axis.specs.Axes.{AxisMeans}
 use Rattle.axis.specs.Memories.{memory_means}
 use Rattle.block.specs.Commands.{commanded}
-use Rattle.axis.proofs.Orders.{order_follows}
-use Rattle.axis.proofs.Readiness.{Sane, rows_enough, ready}
-use Rattle.axis.specs.Carrying.{Ready}
+use Rattle.axis.proofs.Readiness.{Sane, rows_enough, judged_ready}
 use Rattle.axis.specs.Questions.{order_by}
 use Rattle.axis.proofs.axis.Axis.obey.Goals as goal
 
@@ -22,4 +20,4 @@ carry-requires g c =
       few = k.table.few;
       enough = rows_enough k.table;
     } in
-    order_follows g.D.Drive.G m (Ready m) (ready g.D.Drive.G m sane) c.args.block (commanded c.rising-risen.result) c.in-Ok.order (sym {b = order_by g.D.Drive.G m c.args.block (commanded c.rising-risen.result)} c.in-Ok.ensures)
+    judged_ready g.D.Drive.G m sane c.rising-risen.result c.args.block c.in-Ok.order (sym {b = order_by g.D.Drive.G m c.args.block (commanded c.rising-risen.result)} c.in-Ok.ensures)
