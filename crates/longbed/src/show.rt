@@ -46,6 +46,19 @@ impl fmt::Display for Told<'_> {
     }
 }
 
+// What the calls of a line answered, one after the other.
+#[derive(Clone, Copy)]
+struct Answers<'a>(&'a [Note]);
+
+impl fmt::Display for Answers<'_> {
+    fn fmt<W: fmt::Write>(&self, f: &mut fmt::Formatter<W>) -> fmt::Result {
+        for note in self.0 {
+            write!(f, "{}", Told(&note.answer))?;
+        }
+        Ok(())
+    }
+}
+
 // How many calls a line makes.
 fn call_count(line: &Line) -> usize
     ensures { result ≡ length (calls_in (line_means line.now)) }
@@ -57,23 +70,29 @@ fn call_count(line: &Line) -> usize
     }
 }
 
-// Prints a line of calls with what they answered. A line that makes no call, as it is one of the bed, is not printed.
+// Prints a line of calls with what they answered. A line that makes no call, as it is one of the bed, is not printed. A line of one call
+// is written at once, and one of many ticks as it goes, so that it needs no memory of its own.
 fn print_calls(rt: &HostRuntime, entry: &Entry, notes: &[Note]) -> io::Result<()> {
     match &entry.line {
-        Line::Setup(speed) => print!(rt; "setup {speed}:")?,
+        Line::Setup(speed) => println!(rt; "setup {speed}:{}", Answers(notes)),
         Line::Block(_) => {
             print_words(rt, entry.text)?;
-            print!(rt; ":")?;
+            println!(rt; ":{}", Answers(notes))
         }
-        Line::Event(code) => print!(rt; "event {code}:")?,
-        Line::Tick(count) => print!(rt; "tick {count}:")?,
-        Line::Reading(size) => print!(rt; "reading {size}:")?,
-        Line::Blank | Line::Bed(_) | Line::At(_) | Line::Tripped => return Ok(()),
+        Line::Event(code) => println!(rt; "event {code}:{}", Answers(notes)),
+        Line::Tick(count) => {
+            print!(rt; "tick {count}:")?;
+            for note in notes {
+                print!(rt; "{}", Told(&note.answer))?;
+            }
+            println!(rt)
+        }
+        Line::Reading(size) => {
+            print!(rt; "reading {size}:")?;
+            println!(rt; "{}", Answers(notes))
+        }
+        Line::Blank | Line::Bed(_) | Line::At(_) | Line::Tripped => Ok(()),
     }
-    for note in notes {
-        print!(rt; "{}", Told(&note.answer))?;
-    }
-    println!(rt)
 }
 
 // The notes of a line's calls, as far as there are any, and those after them.
