@@ -66,6 +66,7 @@ pub extern "C" fn longbed_calls(
     ensures unreadable { drive ≤ 1 → profile ≤ 5 → IsStuck calls.now (length out.old) Unmade.Unreadable → (result ≡ 2) × (out.new ≡ out.old) }
     ensures crowded { drive ≤ 1 → profile ≤ 5 → IsStuck calls.now (length out.old) Unmade.NoRoom → (result ≡ 3) × (out.new ≡ out.old) }
     ensures none { calls.now ≡ [] → (result < 2) × (out.new ≡ out.old) }
+    ensures made { drive ≤ 1 → profile ≤ 5 → calls.now ≡ [] → result ≡ 0 }
 {
     let Some(bed) = bed_of(drive, profile, outer, inner) else {
         return 1;
